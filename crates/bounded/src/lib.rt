@@ -1,0 +1,2 @@
+//! A list of at most `N` elements, without a heap.
+pub mod list;

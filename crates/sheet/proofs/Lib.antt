@@ -1,0 +1,8 @@
+pub mod Walks
+pub mod Few
+pub mod Sorts
+pub mod Growing
+pub mod Checking
+pub mod Packing
+pub mod Forms
+pub mod Laying

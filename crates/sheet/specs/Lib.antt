@@ -1,0 +1,12 @@
+pub mod Commands
+pub mod Operands
+pub mod Parts
+pub mod Limits
+pub mod Sheets
+pub mod Faults
+pub mod Arities
+pub mod Growth
+pub mod Checks
+pub mod Tables
+pub mod Packed
+pub mod Forms

@@ -1,0 +1,31 @@
+//! One entry of a sheet.
+ghost use mathlib.Core.Path.{_≡_};
+ghost use lib.ListN.{getD};
+ghost use Rattle.sheet.specs.Operands.{operand-list};
+
+/// A command byte and five operand bytes; operands that the command lacks are 0 in a lawful sheet.
+#[derive(Clone, Copy, PartialEq, Eq, Debug)]
+pub struct Entry {
+    pub command: u8,
+    pub a: u8,
+    pub b: u8,
+    pub c: u8,
+    pub d: u8,
+    pub e: u8,
+}
+
+impl Entry {
+    /// Operand `i`, from 0 on; 0 past the fifth.
+    pub fn operand(self, i: usize) -> u8
+        ensures { λ r. ⌜ r ≡ getD (operand-list self) i 0 ⌝ }
+    {
+        match i {
+            0 => self.a,
+            1 => self.b,
+            2 => self.c,
+            3 => self.d,
+            4 => self.e,
+            _ => 0,
+        }
+    }
+}

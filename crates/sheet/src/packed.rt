@@ -1,0 +1,145 @@
+//! Packed sheets: the commands in order, each with its own operands, and an end byte.
+ghost use mathlib.Core.Path.{_≡_};
+ghost use mathlib.Core.List.{_∷_};
+ghost use denote.Ref.{now as deref};
+ghost use Rattle.std.specs.declared.option.Option.the-variants.{Some};
+ghost use Rattle.sheet.specs.Commands.{command as command-of};
+ghost use Rattle.sheet.specs.Packed.{packed, Fronts};
+use crate::command::Command;
+use crate::entry::Entry;
+use crate::source::SheetSource;
+
+/// The byte after the last command.
+pub const END: u8 = 0xFF;
+
+/// What stands at the front of some bytes.
+#[derive(Clone, Copy)]
+pub enum Front<'a> {
+    /// A whole command, and the bytes after it.
+    Whole { entry: Entry, rest: &'a [u8] },
+    /// The end byte, and the bytes after it.
+    End { rest: &'a [u8] },
+    /// A byte that is no command.
+    Unknown,
+    /// Nothing, or the beginning of a command.
+    Cut,
+}
+
+/// What stands at the front of the bytes.
+pub(crate) fn peek<'a>(bytes: &'a [u8]) -> Front<'a>
+    ensures { λ r. ⌜ Fronts (now (bytes .entry)) r ⌝ }
+{
+    let [byte, after @ ..] = bytes else {
+        return Front::Cut;
+    };
+    if *byte == END {
+        return Front::End { rest: after };
+    }
+    match Command::of(*byte) {
+        Some(command) => operands(*byte, command, after),
+        None => Front::Unknown,
+    }
+}
+
+// The command with the operands that it takes from the bytes after it.
+fn operands<'a>(byte: u8, command: Command, bytes: &'a [u8]) -> Front<'a>
+    requires { ⌜ command-of byte ≡ Some command ⌝ }
+    ensures { λ r. ⌜ Fronts (byte ∷ now (bytes .entry)) r ⌝ }
+{
+    let none = Entry {
+        command: byte,
+        a: 0,
+        b: 0,
+        c: 0,
+        d: 0,
+        e: 0,
+    };
+    match command.operands() {
+        0 => Front::Whole {
+            entry: none,
+            rest: bytes,
+        },
+        1 => match bytes {
+            [a, rest @ ..] => Front::Whole {
+                entry: Entry { a: *a, ..none },
+                rest,
+            },
+            _ => Front::Cut,
+        },
+        2 => match bytes {
+            [a, b, rest @ ..] => Front::Whole {
+                entry: Entry {
+                    a: *a,
+                    b: *b,
+                    ..none
+                },
+                rest,
+            },
+            _ => Front::Cut,
+        },
+        3 => match bytes {
+            [a, b, c, rest @ ..] => Front::Whole {
+                entry: Entry {
+                    a: *a,
+                    b: *b,
+                    c: *c,
+                    ..none
+                },
+                rest,
+            },
+            _ => Front::Cut,
+        },
+        _ => match bytes {
+            [a, b, c, d, e, rest @ ..] => {
+                Front::Whole {
+                    entry: Entry {
+                        command: byte,
+                        a: *a,
+                        b: *b,
+                        c: *c,
+                        d: *d,
+                        e: *e,
+                    },
+                    rest,
+                }
+            }
+            _ => Front::Cut,
+        },
+    }
+}
+
+/// The entries are the whole commands before the first end byte, unknown byte or cut command.
+#[derive(Clone, Copy)]
+pub struct Packed<'a> {
+    pub bytes: &'a [u8],
+}
+
+pub impl<'a> SheetSource for Packed<'a> as PackedSource {
+    ghost entries = { λ s. packed (deref (s .bytes)) };
+
+    fn count(&self) -> usize {
+        let mut rest = self.bytes;
+        let mut n = 0;
+        while let Front::Whole {
+            entry: _,
+            rest: after,
+        } = peek(rest) {
+            rest = after;
+            n += 1;
+        }
+        n
+    }
+
+    fn entry(&self, k: usize) -> Option<Entry> {
+        let mut rest = self.bytes;
+        let mut left = k;
+        while let Front::Whole { entry, rest: after } = peek(rest) {
+            if left == 0 {
+                return Some(entry);
+            }
+            rest = after;
+            left -= 1;
+        }
+        None
+    }
+}
