@@ -5,7 +5,6 @@ mod words;
 use reasons::Declined;
 use reasons::DeclinedDisplay;
 use refusals::Refusal;
-use sheet::check::load;
 use sheet::packed::Packed;
 use sheet::packed::PackedSource;
 use sheet::reading::read;
@@ -18,8 +17,10 @@ use words::ConstructorInWords;
 use words::InWords;
 use words::RowInWords;
 
-// What is read of the input; the packed form of a lawful sheet is shorter.
+// How much of the input is read; no lawful sheet has more than 2140 bytes.
 const MOST_BYTES: u64 = 4096;
+
+// The buffer for writing back.
 const ROOM: usize = 4096;
 
 /// A lawful sheet and the number of its entries.
@@ -31,7 +32,7 @@ struct Sheet {
 
 fn sheet_of(bytes: &[u8]) -> Result<Sheet, Refusal> {
     let entries = read(bytes)?;
-    let tables = load(&Packed { bytes })?;
+    let tables = Tables::load(&Packed { bytes })?;
     Ok(Sheet { tables, entries })
 }
 
@@ -77,6 +78,7 @@ fn print_variables(rt: &impl Print, tables: &Tables) -> io::Result<()> {
 fn print_rows(rt: &impl Print, tables: &Tables) -> io::Result<()> {
     for k in 0..tables.rows.len() {
         if let Some(row) = tables.rows.get(k) {
+            // Each row of a lawful sheet has an arity.
             if let Some(arity) = tables.arity_of(row) {
                 println!(rt, "row {k}: {}, arity {arity}", InWords(row))?;
             }

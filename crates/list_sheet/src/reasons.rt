@@ -29,7 +29,8 @@ fn explain(reason: Reason) -> &'static str {
 fn unit(reason: Reason) -> &'static str {
     match reason {
         Reason::Cut | Reason::Unknown | Reason::Tail => "byte",
-        Reason::Order | Reason::Crowded | Reason::Absent | Reason::IllSorted | Reason::Padding => "entry",
+        Reason::Order | Reason::Crowded | Reason::Absent | Reason::IllSorted | Reason::Padding =>
+            "entry",
         Reason::Barren => "arity",
         _ => "place",
     }
@@ -46,6 +47,9 @@ pub impl fmt::Display for Declined as DeclinedDisplay {
         let number = reason.number();
         let unit = unit(reason);
         let sentence = explain(reason);
-        write!(f, "refused: {word} ({number}) at {unit} {place}: {sentence}")
+        write!(
+            f,
+            "refused: {word} ({number}) at {unit} {place}: {sentence}"
+        )
     }
 }

@@ -47,7 +47,10 @@ pub impl fmt::Display for InWords<Row> as RowInWords {
     fn fmt<W: fmt::Write>(&self, f: &mut fmt::Formatter<W>) -> fmt::Result {
         match self.0 {
             Row::Variable(variable) => write!(f, "variable {variable}"),
-            Row::Apply { constructor, row } => write!(f, "constructor {constructor} over row {row}"),
+            Row::Apply { constructor, row } => write!(
+                f,
+                "constructor {constructor} over row {row}"
+            ),
             Row::Tuple { rows, .. } => match rows.len {
                 0 => f.write_str("tuple of nothing"),
                 1 => write!(f, "tuple of row {}", InWords(rows)),

@@ -20,11 +20,11 @@ use Rattle.sheet.specs.declared.command.Command.{Command}
 use Rattle.sheet.specs.declared.command.Command.the-variants.{NameArity, DataArity, TickArity, TupleArity, BindingArity, Constructor, Variable, VariableRow, ApplyRow, TupleRow, BindRow}
 use Rattle.sheet.specs.declared.item.Item.{Item}
 use Rattle.sheet.specs.Commands.{command, operands}
-use Rattle.sheet.specs.Operands.{all, operand-list, nonzero-past}
+use Rattle.sheet.specs.Operands.{all, operand-list, nonzero-past, entry-of}
 use Rattle.sheet.specs.Sheets.{Sheet, item, item-of, item-by, sheet-of}
 use Rattle.sheet.specs.Faults.{behind, crowded, present, well-sorted, padded, item-fault, fault-of, fault}
 use Rattle.sheet.specs.Checks.{Lawful}
-use Rattle.sheet.specs.Packed.{width-of, entry-of, bytes-of, packed-form, packed, end-byte, FrontWhole, FrontUnknown, FrontCut}
+use Rattle.sheet.specs.Packed.{width-of, bytes-of, packed-form, packed, end-byte, FrontWhole, FrontUnknown, FrontCut}
 use Rattle.sheet.specs.Forms.{extent, no-entry, after-end, ending, byte-fault-at, byte-fault, Accepted, OneForm, ReadIsForm, FormReadsBack}
 use Rattle.sheet.proofs.Packing.{stop-end, stop-unknown, stop-cut, opens, width-most, whole-known, packed-whole}
 

@@ -25,15 +25,15 @@ use Rattle.sheet.specs.Parts.{parts}
 use Rattle.sheet.specs.Sheets.{Sheet}
 use Rattle.sheet.specs.Faults.{holds, is-data}
 use Rattle.sheet.specs.Arities.{HasArity, HasArities, Inhabited}
-use Rattle.sheet.specs.Growth.{marked, makes-one, grows, grows-as, Sound, Closed, left-out, Sweeps}
+use Rattle.sheet.specs.Growth.{marked, serves, makes-one, grows, grows-as, Sound, Closed, left-out, Sweeps}
 use Rattle.sheet.proofs.Walks.{told, told-below}
 
 -- the loop over the constructors: one serves, or none so far
 module _ (m : Marks) (a : ℕ) (xs : List Constructor) (k : ℕ) where
-  pub made-here : (x : Constructor) → nth xs k ≡ Some x → (eqb (x .makes) a && marked m (x .takes)) ≡ true → makes-one m a (drop k xs) ≡ true
+  pub made-here : (x : Constructor) → nth xs k ≡ Some x → serves m a x ≡ true → makes-one m a (drop k xs) ≡ true
   made-here x is serves = ap (makes-one m a) (told xs k x is) ∙ ap (λ b. b || makes-one m a (drop (k + 1) xs)) serves
 
-  pub made-later : (x : Constructor) → nth xs k ≡ Some x → (eqb (x .makes) a && marked m (x .takes)) ≡ false
+  pub made-later : (x : Constructor) → nth xs k ≡ Some x → serves m a x ≡ false
       → makes-one m a (drop k xs) ≡ makes-one m a (drop (k + 1) xs)
   made-later x is fails = ap (makes-one m a) (told xs k x is) ∙ ap (λ b. b || makes-one m a (drop (k + 1) xs)) fails
 

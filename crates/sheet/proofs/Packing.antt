@@ -1,5 +1,5 @@
 -- Packed bytes, one command at a time.
-use mathlib.Core.Path.{_≡_, refl, sym, ap, _∙_}
+use mathlib.Core.Path.{_≡_, refl, sym, ap, subst, _∙_}
 use mathlib.Core.List.{List, [], _∷_, _++_}
 use mathlib.Core.Logic.{_⊎_, inl, inr}
 use mathlib.Core.Bool.{cond}
@@ -20,8 +20,8 @@ use Rattle.sheet.specs.declared.command.Command.the-variants.{NameArity, DataA
 use Rattle.sheet.specs.declared.packed.Front.{Front}
 use Rattle.sheet.specs.declared.packed.Front.the-variants.{Whole, End, Unknown, Cut}
 use Rattle.sheet.specs.Commands.{command, operands}
-use Rattle.sheet.specs.Operands.{operand-list}
-use Rattle.sheet.specs.Packed.{Fronts, width-of, bytes-of, entry-of, whole, command-then, packed-past, packed, FrontWhole, FrontUnknown, FrontCut, end-byte}
+use Rattle.sheet.specs.Operands.{operand-list, entry-of}
+use Rattle.sheet.specs.Packed.{Fronts, width-of, bytes-of, whole, command-then, packed-past, packed, FrontWhole, FrontUnknown, FrontCut, end-byte}
 
 pub widths : (c : Command) → (operands c ≤ 3) ⊎ (operands c ≡ 5)
 widths NameArity = inl (lit≤ tt)
@@ -112,10 +112,13 @@ taken n i bs = grind (arith, tells, getD-take, getD-past, length-take)
 front-is : (n b : ℕ) (bs : List ℕ) → entry-of b (take n bs) ≡ front n b bs
 front-is n b bs = cc (taken n 0 bs, taken n 1 bs, taken n 2 bs, taken n 3 bs, taken n 4 bs)
 
-pub read-whole : (n b : ℕ) (c : Command) (bs rest : List ℕ) → command b ≡ Some c → operands c ≡ n → n ≤ length bs → rest ≡ drop n bs →
-    FrontWhole (b ∷ bs) (front n b bs) rest
-read-whole n b c bs rest known is fits end =
-    rw (end, ← front-is n b bs) (front-whole b n bs (whole-known b n c bs known is fits))
+-- the command with its first n bytes, and the bytes after them
+pub read-whole : (n b : ℕ) (c : Command) (bs : List ℕ) (r : Front) (e : Entry) (rest : RefT (List ℕ)) →
+    command b ≡ Some c → operands c ≡ n → n ≤ length bs → r ≡ Whole e rest → e ≡ front n b bs → now rest ≡ drop n bs → Fronts (b ∷ bs) r
+read-whole n b c bs r e rest known is fits whole-is entry-is rest-is =
+    let found : FrontWhole (b ∷ bs) (front n b bs) (drop n bs) = rw (← front-is n b bs) (front-whole b n bs (whole-known b n c bs known is fits)) in
+    let here : FrontWhole (b ∷ bs) e (now rest) = rw (entry-is, rest-is) found in
+    subst (Fronts (b ∷ bs)) (sym whole-is) here
 
 pub stop-end : (bs rest : List ℕ) → bs ≡ end-byte ∷ rest → packed bs ≡ []
 stop-end bs rest is = ap packed is ∙ packed-none end-byte rest refl

@@ -18,10 +18,10 @@ use Rattle.sheet.specs.declared.tables.trees.Marks.{Marks}
 use Rattle.sheet.specs.declared.item.Arity.{Arity}
 use Rattle.sheet.specs.declared.item.Arity.the-variants.{Name, Data, Tick, Tuple, Binding}
 use Rattle.sheet.specs.declared.item.Constructor.{Constructor}
+use Rattle.sheet.specs.Limits.{most-arities}
 use Rattle.sheet.specs.Operands.{all}
 use Rattle.sheet.specs.Parts.{parts}
 use Rattle.sheet.specs.Sheets.{Sheet}
-use Rattle.sheet.specs.Faults.{how-many, holds}
 use Rattle.sheet.specs.Arities.{Inhabited}
 
 abbrev pub marked : Marks → ℕ → Bool
@@ -30,9 +30,13 @@ marked m a = getD (m .at) a false
 abbrev pub all-marked : Marks → List ℕ → Bool
 all-marked m ps = all (marked m) ps
 
+-- the constructor makes a tree of arity a of one of an arity in m
+abbrev pub serves : Marks → ℕ → Constructor → Bool
+serves m a x = eqb (x .makes) a && marked m (x .takes)
+
 abbrev pub makes-one : Marks → ℕ → List Constructor → Bool
 makes-one m a [] = false
-makes-one m a (x ∷ xs) = (eqb (x .makes) a && marked m (x .takes)) || makes-one m a xs
+makes-one m a (x ∷ xs) = serves m a x || makes-one m a xs
 
 abbrev pub grows-as : Sheet → Marks → ℕ → Option Arity → Bool
 grows-as S m a None = false
@@ -49,7 +53,7 @@ abbrev pub Sound : Sheet → Marks → Type 0
 Sound S m = (a : ℕ) → marked m a ≡ true → Inhabited S a
 
 abbrev pub Closed : Sheet → Marks → Type 0
-Closed S m = (a : ℕ) → a < 64 → grows S m a ≡ true → marked m a ≡ true
+Closed S m = (a : ℕ) → a < most-arities → grows S m a ≡ true → marked m a ≡ true
 
 -- how many arities are not in the set
 abbrev pub left-out : List Bool → ℕ

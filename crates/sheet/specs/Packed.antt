@@ -20,7 +20,7 @@ use Rattle.sheet.specs.declared.command.Command.{Command}
 use Rattle.sheet.specs.declared.packed.Front.{Front}
 use Rattle.sheet.specs.declared.packed.Front.the-variants.{Whole, End, Unknown, Cut}
 use Rattle.sheet.specs.Commands.{command, operands}
-use Rattle.sheet.specs.Operands.{operand-list}
+use Rattle.sheet.specs.Operands.{operand-list, entry-of}
 
 abbrev pub end-byte : ℕ
 end-byte = 0xFF
@@ -34,10 +34,6 @@ bytes-of e = e .command ∷ take (width-of (command (e .command))) (operand-list
 
 unfoldable pub packed-form : List Entry → List ℕ
 packed-form es = joined bytes-of es ++ end-byte ∷ []
-
--- the entry of a command byte and operand bytes; operands that are not there are 0
-abbrev pub entry-of : ℕ → List ℕ → Entry
-entry-of b xs = record { command = b; a = getD xs 0 0; b = getD xs 1 0; c = getD xs 2 0; d = getD xs 3 0; e = getD xs 4 0 }
 
 -- how many operands a command has, where they are all among so many bytes
 abbrev pub whole : ℕ → Option Command → Option ℕ

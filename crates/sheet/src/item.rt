@@ -2,7 +2,6 @@
 ghost use mathlib.Core.Path.{_≡_};
 ghost use Rattle.std.specs.Finite.{nth};
 ghost use Rattle.sheet.specs.Parts.{parts};
-ghost use Rattle.sheet.specs.Faults.{is-name, is-data};
 
 /// The parts of a tuple: the first `len` of four numbers.
 #[derive(Clone, Copy)]
@@ -65,28 +64,6 @@ impl Parts {
             2 => Some(self.c),
             3 => Some(self.d),
             _ => None,
-        }
-    }
-}
-
-impl Arity {
-    /// Whether its trees are names.
-    pub fn is_name(self) -> bool
-        ensures { λ r. ⌜ r ≡ is-name self ⌝ }
-    {
-        match self {
-            Arity::Name => true,
-            _ => false,
-        }
-    }
-
-    /// Whether its trees are made by constructors.
-    pub fn is_data(self) -> bool
-        ensures { λ r. ⌜ r ≡ is-data self ⌝ }
-    {
-        match self {
-            Arity::Data => true,
-            _ => false,
         }
     }
 }

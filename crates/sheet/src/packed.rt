@@ -3,6 +3,7 @@ ghost use mathlib.Core.Path.{_≡_};
 ghost use mathlib.Core.List.{_∷_};
 ghost use denote.Ref.{now as deref};
 ghost use Rattle.std.specs.declared.option.Option.the-variants.{Some};
+ghost use Rattle.sheet.specs.declared.packed.Front.the-variants.{Whole};
 ghost use Rattle.sheet.specs.Commands.{command as command-of};
 ghost use Rattle.sheet.specs.Packed.{packed, Fronts};
 use crate::command::Command;
@@ -41,68 +42,34 @@ pub(crate) fn peek<'a>(bytes: &'a [u8]) -> Front<'a>
     }
 }
 
+// A whole command of the entry's bytes, with what follows them.
+fn whole<'a>(entry: Entry, rest: &'a [u8]) -> Front<'a>
+    ensures { λ r. ⌜ r ≡ Whole entry (rest .entry) ⌝ }
+{
+    Front::Whole { entry, rest }
+}
+
 // The command with the operands that it takes from the bytes after it.
 fn operands<'a>(byte: u8, command: Command, bytes: &'a [u8]) -> Front<'a>
     requires { ⌜ command-of byte ≡ Some command ⌝ }
     ensures { λ r. ⌜ Fronts (byte ∷ now (bytes .entry)) r ⌝ }
 {
-    let none = Entry {
-        command: byte,
-        a: 0,
-        b: 0,
-        c: 0,
-        d: 0,
-        e: 0,
-    };
     match command.operands() {
-        0 => Front::Whole {
-            entry: none,
-            rest: bytes,
-        },
+        0 => whole(Entry::new(byte, 0, 0, 0, 0, 0), bytes),
         1 => match bytes {
-            [a, rest @ ..] => Front::Whole {
-                entry: Entry { a: *a, ..none },
-                rest,
-            },
+            [a, rest @ ..] => whole(Entry::new(byte, *a, 0, 0, 0, 0), rest),
             _ => Front::Cut,
         },
         2 => match bytes {
-            [a, b, rest @ ..] => Front::Whole {
-                entry: Entry {
-                    a: *a,
-                    b: *b,
-                    ..none
-                },
-                rest,
-            },
+            [a, b, rest @ ..] => whole(Entry::new(byte, *a, *b, 0, 0, 0), rest),
             _ => Front::Cut,
         },
         3 => match bytes {
-            [a, b, c, rest @ ..] => Front::Whole {
-                entry: Entry {
-                    a: *a,
-                    b: *b,
-                    c: *c,
-                    ..none
-                },
-                rest,
-            },
+            [a, b, c, rest @ ..] => whole(Entry::new(byte, *a, *b, *c, 0, 0), rest),
             _ => Front::Cut,
         },
         _ => match bytes {
-            [a, b, c, d, e, rest @ ..] => {
-                Front::Whole {
-                    entry: Entry {
-                        command: byte,
-                        a: *a,
-                        b: *b,
-                        c: *c,
-                        d: *d,
-                        e: *e,
-                    },
-                    rest,
-                }
-            }
+            [a, b, c, d, e, rest @ ..] => whole(Entry::new(byte, *a, *b, *c, *d, *e), rest),
             _ => Front::Cut,
         },
     }

@@ -39,9 +39,31 @@ pub struct Tables {
     pub rows: Bounded<Row, ROWS>,
 }
 
+impl Arity {
+    // Whether its trees are names.
+    fn is_name(self) -> bool
+        ensures { λ r. ⌜ r ≡ is-name self ⌝ }
+    {
+        match self {
+            Arity::Name => true,
+            _ => false,
+        }
+    }
+
+    // Whether its trees are made by constructors.
+    fn is_data(self) -> bool
+        ensures { λ r. ⌜ r ≡ is-data self ⌝ }
+    {
+        match self {
+            Arity::Data => true,
+            _ => false,
+        }
+    }
+}
+
 impl Tables {
-    /// A sheet without entries.
-    pub fn new() -> Tables
+    // A sheet without entries.
+    fn new() -> Tables
         ensures { λ r. ⌜ sheet-in r ≡ blank ⌝ }
     {
         Tables {
@@ -94,10 +116,10 @@ impl Tables {
     }
 
     // Whether `a` is the number of a data arity.
-    fn names_data(&self, a: u8) -> bool
+    fn names_data(&self, a: usize) -> bool
         ensures { λ r. ⌜ r ≡ holds is-data (nth (sheet-in (now (self .entry)) .arities) a) ⌝ }
     {
-        match self.arities.get(usize::from(a)) {
+        match self.arities.get(a) {
             Some(arity) => arity.is_data(),
             None => false,
         }
@@ -129,8 +151,8 @@ impl Tables {
         }
     }
 
-    /// The arity of row `r`; nothing where there is no such row.
-    pub fn row_arity(&self, r: u8) -> Option<u8>
+    // The arity of row `r`; nothing where there is no such row.
+    fn row_arity(&self, r: u8) -> Option<u8>
         ensures { λ x. ⌜ x ≡ row-arity (sheet-in (now (self .entry))) r ⌝ }
     {
         match self.rows.get(usize::from(r)) {

@@ -19,7 +19,7 @@ use crate::tables::ROWS;
 use crate::tables::Tables;
 use crate::tables::VARIABLES;
 
-pub mod admit;
+pub mod loading;
 
 impl Entry {
     // Whether an operand past the first `n` is not 0.
@@ -40,7 +40,7 @@ impl Parts {
     fn all_below(self, n: usize) -> bool
         ensures { λ r. ⌜ r ≡ all (λ k. ltb k n) (parts self) ⌝ }
     {
-        for i in 0..4u8 {
+        for i in 0..PARTS {
             let Some(k) = self.get(i) else {
                 return true;
             };
@@ -185,7 +185,7 @@ impl Tables {
         match item {
             Item::Arity(Arity::Binding { names, .. }) => self.names_names(names),
             Item::Arity(_) => true,
-            Item::Constructor(c) => self.names_data(c.makes),
+            Item::Constructor(c) => self.names_data(usize::from(c.makes)),
             Item::Variable(_) => true,
             Item::Row(row) => self.is_row_sorted(row),
         }

@@ -21,8 +21,7 @@ returns-then-not-has c =
     let S = sheet-in (c .args .self .now) in
     let m = c .inhabited-marks .result in
     let a = c .loop-a .a in
-    let few = items-few (c .args .self .now .arities) in
-    simp (c .from .ensures) (
+    let few = items-few (c .args .self .now .arities) in (
       (
         data-only (nth (S .arities) a) (sym (c .if-names-data .ensures tt)),
         λ tree. both-ways (marked m a) (sym (c .if-not-has .ensures tt)) (every-tree S m (c .inhabited-marks .ensures .closed) few (tree .0) a (tree .1)),

@@ -1,4 +1,4 @@
-use mathlib.Core.Path.{_≡_, refl, sym, _∙_}
+use mathlib.Core.Path.{_≡_, refl, sym, ap, _∙_}
 use native.Mathlib.Omega.{arith}
 use Rattle.sheet.specs.Parts.{parts}
 use Rattle.sheet.specs.Growth.{marked}
@@ -16,12 +16,12 @@ returns-in-rest c =
 
 pub returns-then-not-has : need.returns-then-not-has
 returns-then-not-has c =
-    sym (all-stop (marked (c .args .marks .now)) (parts (c .args .ps)) (c .loop-i .i) (c .in-Some .a) (sym (c .in-Some .ensures tt)) (sym (c .if-not-has .ensures tt)))
+    sym (all-stop (marked (c .args .marks .now)) (parts (c .args .ps)) (c .loop-i .i) (c .in-Some .a) (sym (c .in-Some .ensures tt)) (ap (marked (c .args .marks .now)) (sym (c .from .ensures)) ∙ sym (c .if-not-has .ensures tt)))
     ∙ c .loop-i .inv
 
 pub loop-i-again : need.loop-i-again
 loop-i-again c =
-    sym (all-step (marked (c .args .marks .now)) (parts (c .args .ps)) (c .loop-i .i) (c .in-Some .a) (sym (c .in-Some .ensures tt)) (sym (c .if-not-has .ensures tt)))
+    sym (all-step (marked (c .args .marks .now)) (parts (c .args .ps)) (c .loop-i .i) (c .in-Some .a) (sym (c .in-Some .ensures tt)) (ap (marked (c .args .marks .now)) (sym (c .from .ensures)) ∙ sym (c .if-not-has .ensures tt)))
     ∙ c .loop-i .inv
 
 pub returns : need.returns

@@ -4,7 +4,7 @@ use native.Mathlib.Omega.{arith}
 use Rattle.sheet.specs.Tables.{sheet-in}
 use Rattle.sheet.proofs.Walks.{untold}
 use Rattle.sheet.proofs.Checking.{Passed, passed-none, passed-more, passed-all, first-fault, lowest-barren, lawful}
-use Rattle.sheet.proofs.check.load.Needs as need
+use Rattle.sheet.proofs.tables.Tables.load.Needs as need
 
 pub loop-k-holds : need.loop-k-holds
 loop-k-holds g c = let es = g .S·SheetSource .entries (c .args .source .now) in subst (Passed es 0) (sym (c .new-tables .ensures)) (passed-none es)

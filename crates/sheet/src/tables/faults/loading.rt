@@ -1,9 +1,9 @@
-//! One entry more.
+//! A sheet, entry by entry.
 ghost use mathlib.Core.Path.{_≡_};
 ghost use mathlib.Core.Bool.{false};
-ghost use Rattle.sheet.specs.Sheets.{item as item-in, item-by, declare as declared};
+ghost use Rattle.sheet.specs.Sheets.{item as item-in, item-by, operand-parts, declare as declared};
 ghost use Rattle.sheet.specs.Faults.{item-fault, crowded};
-ghost use Rattle.sheet.specs.Tables.{sheet-in, Admits};
+ghost use Rattle.sheet.specs.Tables.{sheet-in, Admits, Loaded};
 use crate::command::Command;
 use crate::entry::Entry;
 use crate::item::Arity;
@@ -11,8 +11,23 @@ use crate::item::Constructor;
 use crate::item::Item;
 use crate::item::Parts;
 use crate::item::Row;
+use crate::source::SheetSource;
 use crate::tables::Tables;
 use refusals::Reason;
+use refusals::Refusal;
+
+// The operands from the second on, as the parts of a tuple.
+fn tuple_parts(len: u8, e: Entry) -> Parts
+    ensures { λ r. ⌜ r ≡ operand-parts len e ⌝ }
+{
+    Parts {
+        len,
+        a: e.b,
+        b: e.c,
+        c: e.d,
+        d: e.e,
+    }
+}
 
 impl Tables {
     // What the entry declares by the command that its byte names.
@@ -23,13 +38,7 @@ impl Tables {
             Command::NameArity => Item::Arity(Arity::Name),
             Command::DataArity => Item::Arity(Arity::Data),
             Command::TickArity => Item::Arity(Arity::Tick),
-            Command::TupleArity => Item::Arity(Arity::Tuple(Parts {
-                len: e.a,
-                a: e.b,
-                b: e.c,
-                c: e.d,
-                d: e.e,
-            })),
+            Command::TupleArity => Item::Arity(Arity::Tuple(tuple_parts(e.a, e))),
             Command::BindingArity => Item::Arity(Arity::Binding {
                 names: e.a,
                 body: e.b,
@@ -45,13 +54,7 @@ impl Tables {
                 row: e.b,
             }),
             Command::TupleRow => {
-                let rows = Parts {
-                    len: self.width(e.a),
-                    a: e.b,
-                    b: e.c,
-                    c: e.d,
-                    d: e.e,
-                };
+                let rows = tuple_parts(self.width(e.a), e);
                 Item::Row(Row::Tuple { arity: e.a, rows })
             }
             Command::BindRow => Item::Row(Row::Bind {
@@ -104,8 +107,8 @@ impl Tables {
         };
     }
 
-    /// The entry joins the sheet, or is declined and the sheet is as it was.
-    pub fn admit(&mut self, e: Entry) -> Result<(), Reason>
+    // The entry joins the sheet, or is declined and the sheet is as it was.
+    fn admit(&mut self, e: Entry) -> Result<(), Reason>
         ensures { λ r. ⌜ Admits (sheet-in (now (self .entry))) e r (sheet-in (now (self .exit))) ⌝ }
     {
         let Some(item) = self.item(e) else {
@@ -117,6 +120,30 @@ impl Tables {
                 self.declare(item);
                 Ok(())
             }
+        }
+    }
+
+    /// The sheet that a source tells, or why it is not lawful.
+    pub fn load<S: SheetSource>(source: &S) -> Result<Tables, Refusal>
+        ensures { λ r. ⌜ Loaded (entries (now (source .entry))) r ⌝ }
+    {
+        let mut tables = Tables::new();
+        for k in 0..source.count() {
+            match source.entry(k) {
+                Some(entry) => {
+                    if let Err(reason) = tables.admit(entry) {
+                        return Err(Refusal { reason, place: k });
+                    }
+                }
+                None => unreachable(),
+            }
+        }
+        match tables.lowest_barren() {
+            Some(place) => Err(Refusal {
+                reason: Reason::Barren,
+                place,
+            }),
+            None => Ok(tables),
         }
     }
 }
