@@ -2,14 +2,14 @@
 mod reasons;
 mod words;
 
+use packed::reading::read;
+use packed::source::Packed;
+use packed::source::PackedSource;
+use packed::writing::write;
 use reasons::Declined;
 use reasons::DeclinedDisplay;
 use refusals::Refusal;
-use sheet::packed::Packed;
-use sheet::packed::PackedSource;
-use sheet::reading::read;
 use sheet::tables::Tables;
-use sheet::writing::write;
 use std::io;
 use std::io::Read;
 use words::ArityInWords;

@@ -3,6 +3,3 @@ pub mod Few
 pub mod Sorts
 pub mod Growing
 pub mod Checking
-pub mod Packing
-pub mod Forms
-pub mod Laying

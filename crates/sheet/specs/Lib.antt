@@ -8,5 +8,3 @@ pub mod Arities
 pub mod Growth
 pub mod Checks
 pub mod Tables
-pub mod Packed
-pub mod Forms

@@ -1,11 +1,11 @@
 //! What the calls answer.
 use crate::hex::Hex;
 use crate::hex::HexDisplay;
+use packed::reading::read;
+use packed::writing::write;
 use refusals::Refusal;
 use sheet::check::check;
-use sheet::reading::read;
 use sheet::source::SheetSource;
-use sheet::writing::write;
 use std::alloc::AllocError;
 use std::alloc::Global;
 use std::fmt;

@@ -5,8 +5,6 @@ mod answer;
 mod case;
 mod fault;
 mod hex;
-#[cfg(test)]
-mod tests;
 
 use answer::Answer;
 use answer::AnswerDisplay;
@@ -14,8 +12,8 @@ use case::Case;
 use case::Form;
 use fault::Fault;
 use fault::FaultFromAlloc;
-use sheet::packed::Packed;
-use sheet::packed::PackedSource;
+use packed::source::Packed;
+use packed::source::PackedSource;
 use sheet::source::Records;
 use sheet::source::RecordsSource;
 use std::alloc::Global;
