@@ -1,4 +1,11 @@
 //! Lists a packed sheet of standard input in words, or says why it is refused.
+ghost use mathlib.Core.Path.{_≡_};
+ghost use mathlib.Core.Bool.{true};
+ghost use Prim.Native.Nat.{_≤_};
+ghost use lib.ListN.{length};
+ghost use Rattle.packed.specs.Forms.{Accepted};
+ghost use Rattle.list_sheet.specs.Listed.{Listed};
+
 mod reasons;
 mod words;
 
@@ -25,19 +32,24 @@ const ROOM: usize = 4096;
 
 /// A lawful sheet and the number of its entries.
 #[derive(Drop)]
-struct Sheet {
+struct Listing {
     tables: Tables,
     entries: usize,
 }
 
-fn sheet_of(bytes: &[u8]) -> Result<Sheet, Refusal> {
+// The sheet that the bytes mean.
+fn listing_of(bytes: &[u8]) -> Result<Listing, Refusal>
+    ensures { λ r. ⌜ Listed (now (bytes .entry)) r ⌝ }
+{
     let entries = read(bytes)?;
     let tables = Tables::load(&Packed { bytes })?;
-    Ok(Sheet { tables, entries })
+    Ok(Listing { tables, entries })
 }
 
 // Whether writing the sheet gives the bytes that it was read from.
-fn is_written_back(bytes: &[u8]) -> bool {
+fn is_written_back(bytes: &[u8]) -> bool
+    ensures { λ r. ⌜ (Accepted (now (bytes .entry)) → length (now (bytes .entry)) ≤ 4096 → r ≡ true) ⌝ }
+{
     let mut buffer = [0; ROOM];
     match write(&Packed { bytes }, &mut buffer) {
         Ok(n) => match buffer.get(0..n) {
@@ -94,7 +106,7 @@ fn print_tables(rt: &impl Print, tables: &Tables) -> io::Result<()> {
     print_rows(rt, tables)
 }
 
-fn print_sheet(rt: &impl Print, sheet: &Sheet, bytes: &[u8]) -> io::Result<()> {
+fn print_sheet(rt: &impl Print, sheet: &Listing, bytes: &[u8]) -> io::Result<()> {
     print_tables(rt, &sheet.tables)?;
     println!(rt, "{} entries, {} bytes", sheet.entries, bytes.len())?;
     if !is_written_back(bytes) {
@@ -107,7 +119,7 @@ fn main(rt: LibcRuntime) -> io::Result<()> {
     let mut input = Vec::new(rt.alloc());
     rt.stdin().take(MOST_BYTES).read_to_end(&mut input)?;
     let bytes = input.as_slice();
-    match sheet_of(bytes) {
+    match listing_of(bytes) {
         Ok(sheet) => print_sheet(&rt, &sheet, bytes),
         Err(refusal) => println!(rt, "{}", Declined(refusal)),
     }
