@@ -2,8 +2,8 @@ ghost use mathlib.Core.Path.{_≡_};
 ghost use Prim.Native.Nat.{_≤_};
 ghost use lib.ListN.{length};
 
-pub mod changes;
-pub mod reads;
+mod changes;
+mod reads;
 
 /// The first `len` of `slots` are the list; the others are spare.
 #[derive(Drop)]

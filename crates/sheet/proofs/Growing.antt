@@ -91,7 +91,7 @@ module _ (S : Sheet) (m : Marks) where
   -- what grows from arities with trees has a tree
   grown : Sound S m → (a : ℕ) (o : Option Arity) → nth (S .arities) a ≡ o → grows-as S m a o ≡ true → Inhabited S a
   grown sound a None is h = absurd (false≢true h)
-  grown sound a (Some Name) is h = (name (record { sort = a; number = 0 }), (is, refl))
+  grown sound a (Some Name) is h = (name (record { arity = a; number = 0 }), (is, refl))
   grown sound a (Some Data) is h =
       let k = maker m a (S .constructors) h in
       let (t, has) = sound (k .is .takes) (k .takes-marked) in
@@ -102,7 +102,7 @@ module _ (S : Sheet) (m : Marks) where
       (t, as-tuple S a ps is t have)
   grown sound a (Some (Binding n b)) is h =
       let (t, has) = sound b h in
-      (bind (record { sort = n; number = 0 }) t, (b, is, has))
+      (bind (record { arity = n; number = 0 }) t, (b, is, has))
 
   pub grows-sound : Sound S m → (a : ℕ) → grows S m a ≡ true → Inhabited S a
   grows-sound sound a h = grown sound a (nth (S .arities) a) refl h
@@ -127,7 +127,7 @@ module _ (S : Sheet) (m : Marks) (closed : Closed S m) (few : length (S .arities
         let (ps, p, qs, is, split, has, have) = h in
         closed-at a (Tuple ps) is
         (ap (all (marked m)) split ∙ and-from (marked m p) (all (marked m) qs) (every-tree t p has) (every-tuple u qs have))
-    every-tree (bind n t) a h = closed-at a (Binding (n .sort) (h .0)) (h .1) (every-tree t (h .0) (h .2))
+    every-tree (bind n t) a h = closed-at a (Binding (n .arity) (h .0)) (h .1) (every-tree t (h .0) (h .2))
 
     every-tuple : (t : Tree) (ps : List ℕ) → HasArities S ps t → all (marked m) ps ≡ true
     every-tuple (name n) ps h = absurd h

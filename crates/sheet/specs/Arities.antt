@@ -17,14 +17,14 @@ use Rattle.sheet.specs.Sheets.{Sheet}
 -- A name has the name arity that it is of. A tuple has a tree for each part, paired, and ends in `unit`.
 abbrev mutual
   pub HasArity : Sheet → ℕ → Tree → Type 0
-  HasArity S a (name n) = (nth (S .arities) a ≡ Some NameArity) × (n .sort ≡ a)
+  HasArity S a (name n) = (nth (S .arities) a ≡ Some NameArity) × (n .arity ≡ a)
   HasArity S a (tick k) = (nth (S .arities) a ≡ Some Tick) × (k < 2 ^ 32)
   HasArity S a (con c t) =
       (nth (S .arities) a ≡ Some Data) × ((x : Constructor) × (nth (S .constructors) c ≡ Some x) × (x .makes ≡ a) × HasArity S (x .takes) t)
   HasArity S a unit = (ps : Parts) × (nth (S .arities) a ≡ Some (Tuple ps)) × (parts ps ≡ [])
   HasArity S a (pair t u) =
       (ps : Parts) × (p : ℕ) × (qs : List ℕ) × (nth (S .arities) a ≡ Some (Tuple ps)) × (parts ps ≡ p ∷ qs) × HasArity S p t × HasArities S qs u
-  HasArity S a (bind n t) = (b : ℕ) × (nth (S .arities) a ≡ Some (Binding (n .sort) b)) × HasArity S b t
+  HasArity S a (bind n t) = (b : ℕ) × (nth (S .arities) a ≡ Some (Binding (n .arity) b)) × HasArity S b t
 
   pub HasArities : Sheet → List ℕ → Tree → Type 0
   HasArities S ps (name n) = ⊥

@@ -12,8 +12,8 @@ use crate::item::Parts;
 use crate::item::Row;
 use bounded::list::Bounded;
 
-pub mod faults;
-pub mod trees;
+mod faults;
+mod trees;
 
 /// How much a lawful sheet may have.
 pub const ARITIES: usize = 64;

@@ -1,4 +1,10 @@
--- Trees with binding: their free names, their renamings, and equality up to bound names.
+-- Trees with binding.
+--
+-- Tree         a name, a tick, a constructor over a tree, a tuple, a name before a tree
+-- n free-in t  n is a free name of t
+-- rename π t   t with π applied to every name, the bound ones too
+-- size t       how many parts t has
+-- t ≈ u        t and u are equal up to bound names
 use mathlib.Core.Path.{_≡_}
 use mathlib.Core.Logic.{_⊎_, _≢_}
 use Prim.Native.Nat.{ℕ, _+_}

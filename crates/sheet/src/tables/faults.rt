@@ -19,7 +19,7 @@ use crate::tables::ROWS;
 use crate::tables::Tables;
 use crate::tables::VARIABLES;
 
-pub mod loading;
+mod loading;
 
 impl Entry {
     // Whether an operand past the first `n` is not 0.

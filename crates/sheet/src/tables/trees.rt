@@ -4,7 +4,7 @@ ghost use lib.ListN.{length};
 ghost use Rattle.sheet.specs.Limits.{most-arities};
 use crate::tables::ARITIES;
 
-pub mod growth;
+mod growth;
 
 /// Arity `a` is in the set where `at[a]` is true.
 #[derive(Drop)]
