@@ -2,7 +2,7 @@
 use mathlib.Core.Path.{_≡_, refl, sym, ap, subst, _∙_}
 use mathlib.Core.List.{List, [], _∷_, _++_}
 use mathlib.Core.Logic.{_⊎_, inl, inr}
-use mathlib.Core.Bool.{Bool, true, false, cond, not}
+use mathlib.Core.Bool.{Bool, true, false, cond}
 use Prim.Native.Nat.{ℕ, zero, suc, _+_}
 use native.Mathlib.Omega.{arith}
 use lib.Dec.{eqb}
@@ -14,16 +14,16 @@ use Rattle.std.specs.Finite.{nth}
 use Rattle.std.specs.Joined.{joined}
 use Rattle.std.specs.declared.option.Option.{Option}
 use Rattle.std.specs.declared.option.Option.the-variants.{Some, None}
-use Rattle.refusals.specs.declared.Reason.the-variants.{Order, Crowded, Absent, IllSorted, Padding, Cut, Unknown, Tail}
+use Rattle.refusals.specs.declared.Reason.the-variants.{Cut, Unknown, Tail}
 use Rattle.sheet.specs.declared.entry.Entry.{Entry}
 use Rattle.sheet.specs.declared.command.Command.{Command}
 use Rattle.sheet.specs.declared.command.Command.the-variants.{NameArity, DataArity, TickArity, TupleArity, BindingArity, Constructor, Variable, VariableRow, ApplyRow, TupleRow, BindRow}
-use Rattle.sheet.specs.declared.item.Item.{Item}
 use Rattle.sheet.specs.Commands.{command, operands}
 use Rattle.sheet.specs.Operands.{all, operand-list, nonzero-past, entry-of}
 use Rattle.sheet.specs.Sheets.{Sheet, item, item-of, item-by, sheet-of}
-use Rattle.sheet.specs.Faults.{behind, crowded, present, well-sorted, padded, item-fault, fault-of, fault}
+use Rattle.sheet.specs.Faults.{padded, fault-of, fault}
 use Rattle.sheet.specs.Checks.{Lawful}
+use Rattle.sheet.proofs.Forming.{clean}
 use Rattle.packed.specs.Packed.{width-of, bytes-of, packed-form, packed, end-byte, FrontWhole, FrontUnknown, FrontCut}
 use Rattle.packed.specs.Forms.{extent, no-entry, after-end, ending, byte-fault-at, byte-fault, Accepted, OneForm, ReadIsForm, FormReadsBack}
 use Rattle.packed.proofs.Packing.{stop-end, stop-unknown, stop-cut, opens, width-most, whole-known, packed-whole}
@@ -129,25 +129,9 @@ fills S e ApplyRow = filled 2 e
 fills S e TupleRow = λ _. refl
 fills S e BindRow = filled 3 e
 
-past-test : {X : Type 0} (t : Bool) (x : X) (o : Option X) → cond t (Some x) o ≡ None → o ≡ None
-past-test true x o is = let z : _≡_ {A = ℕ} 0 1 = cc in absurd (omega arith)
-past-test false x o is = is
-
-test-fails : {X : Type 0} (t : Bool) (x : X) → cond t (Some x) None ≡ None → t ≡ false
-test-fails true x is = let z : _≡_ {A = ℕ} 0 1 = cc in absurd (omega arith)
-test-fails false x is = refl
-
-unpadded : (S : Sheet) (e : Entry) (i : Item) → item-fault S e i ≡ None → padded e i ≡ false
-unpadded S e i none =
-    test-fails (padded e i) Padding
-    (past-test (not (well-sorted S i)) IllSorted _
-    (past-test (not (present S i)) Absent _
-    (past-test (crowded S i) Crowded _
-    (past-test (behind S i) Order _ none))))
-
 spelt-of : (S : Sheet) (e : Entry) (o : Option Command) → command (e .command) ≡ o → fault-of S e (item-of S e o) ≡ None → Spelt e
 spelt-of S e None known none = let z : _≡_ {A = ℕ} 0 1 = cc in absurd (omega arith)
-spelt-of S e (Some c) known none = record { is = c; known = known; spelt = fills S e c (unpadded S e (item-by S e c) none) }
+spelt-of S e (Some c) known none = record { is = c; known = known; spelt = fills S e c (clean S e (item-by S e c) none .unpadded) }
 
 faultless-spelt : (S : Sheet) (e : Entry) → fault S e ≡ None → Spelt e
 unfolding fault item

@@ -1,16 +1,15 @@
 -- The check, entry by entry.
 use mathlib.Core.Path.{_≡_, refl, sym, ap, subst, _∙_}
 use mathlib.Core.List.{List, [], _∷_, _++_}
-use mathlib.Core.Logic.{_⊎_, inl, inr}
+use mathlib.Core.Logic.{inl, inr}
 use Prim.Native.Nat.{ℕ, zero, suc, _+_, _<_, _≤_}
 use native.Mathlib.Omega.{arith}
 use native.Mathlib.Numerals.{add-one}
 use borrow.Author.Count.{below-more}
-use lib.ListN.{length, take, drop}
+use lib.ListN.{length, take}
 use Rattle.std.specs.Finite.{nth}
 use Rattle.std.specs.declared.option.Option.{Option}
 use Rattle.std.specs.declared.option.Option.the-variants.{Some, None}
-use Rattle.std.specs.declared.result.Result.{Result}
 use Rattle.std.specs.declared.result.Result.the-variants.{Ok, Err}
 use Rattle.std.proofs.shelf.Lists.{take-all}
 use Rattle.std.proofs.shelf.Tests.{cases-order}
@@ -20,7 +19,7 @@ use Rattle.refusals.specs.declared.Refusal.{Refusal}
 use Rattle.sheet.specs.declared.entry.Entry.{Entry}
 use Rattle.sheet.specs.Sheets.{Sheet, blank, extend, extend-all, sheet-of}
 use Rattle.sheet.specs.Faults.{fault}
-use Rattle.sheet.specs.Checks.{Faultless, FaultlessBelow, FirstFault, Lawful, LowestBarren, Declined, Checked, OneAnswer}
+use Rattle.sheet.specs.Checks.{Faultless, FaultlessBelow, FirstFault, Lawful, LowestBarren, Declined, OneAnswer}
 use Rattle.sheet.specs.Tables.{LowestBarrenIn}
 use Rattle.sheet.proofs.Walks.{told-below}
 

@@ -11,9 +11,8 @@ use lib.ListN.{length, getD, set, drop}
 use Rattle.std.specs.Finite.{nth}
 use Rattle.std.specs.declared.option.Option.{Option}
 use Rattle.std.specs.declared.option.Option.the-variants.{Some, None}
-use Rattle.std.proofs.shelf.Lists.{drop-all, getD-set-same, getD-set-other}
-use Rattle.std.proofs.shelf.Tests.{and-parts, and-from, or-cases, or-left, or-right, eqb-true, eq-eqb, false≢true, cases-eq, cases-bool}
-use Rattle.trees.specs.Names.{Name as TreeName}
+use Rattle.std.proofs.shelf.Lists.{drop-all, getD-set-other}
+use Rattle.std.proofs.shelf.Tests.{and-parts, and-from, or-cases, or-left, or-right, eqb-true, eq-eqb, false≢true, cases-eq}
 use Rattle.trees.specs.Trees.{Tree, name, tick, con, unit, pair, bind}
 use Rattle.sheet.specs.declared.tables.trees.Marks.{Marks}
 use Rattle.sheet.specs.declared.item.Arity.{Arity}
@@ -25,7 +24,7 @@ use Rattle.sheet.specs.Parts.{parts}
 use Rattle.sheet.specs.Sheets.{Sheet}
 use Rattle.sheet.specs.Faults.{holds, is-data}
 use Rattle.sheet.specs.Arities.{HasArity, HasArities, Inhabited}
-use Rattle.sheet.specs.Growth.{marked, serves, makes-one, grows, grows-as, Sound, Closed, left-out, Sweeps}
+use Rattle.sheet.specs.Growth.{marked, serves, makes-one, grows, grows-as, Sound, Closed, left-out}
 use Rattle.sheet.proofs.Walks.{told, told-below}
 
 -- the loop over the constructors: one serves, or none so far

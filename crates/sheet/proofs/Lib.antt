@@ -3,3 +3,4 @@ pub mod Few
 pub mod Sorts
 pub mod Growing
 pub mod Checking
+pub mod Forming

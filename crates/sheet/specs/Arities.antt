@@ -4,9 +4,7 @@ use mathlib.Core.Path.{_≡_}
 use mathlib.Core.List.{List, [], _∷_}
 use Prim.Native.Nat.{ℕ, _<_, _^_}
 use Rattle.std.specs.Finite.{nth}
-use Rattle.std.specs.declared.option.Option.{Option}
-use Rattle.std.specs.declared.option.Option.the-variants.{Some, None}
-use Rattle.trees.specs.Names.{Name}
+use Rattle.std.specs.declared.option.Option.the-variants.{Some}
 use Rattle.trees.specs.Trees.{Tree, name, tick, con, unit, pair, bind}
 use Rattle.sheet.specs.declared.item.Arity.the-variants.{Name as NameArity, Data, Tick, Tuple, Binding}
 use Rattle.sheet.specs.declared.item.Parts.{Parts}

@@ -6,9 +6,9 @@
 -- well-sorted S i   they are of the right kind and arity
 -- padded e i        an operand that it does not use is not 0
 -- fault S e         the first of these, in the order of their numbers
-use mathlib.Core.List.{List, [], _∷_, map}
+use mathlib.Core.List.{List, [], _∷_}
 use mathlib.Core.Bool.{Bool, true, false, cond, not, _&&_, _||_}
-use Prim.Native.Nat.{ℕ, zero, suc, _+_}
+use Prim.Native.Nat.{ℕ, _+_}
 use lib.Dec.{eqb, leb, ltb}
 use lib.ListN.{length}
 use Rattle.std.specs.Finite.{nth}
@@ -20,7 +20,6 @@ use Rattle.refusals.specs.declared.Reason.the-variants.{Unknown, Order, Crowded
 use Rattle.sheet.specs.declared.entry.Entry.{Entry}
 use Rattle.sheet.specs.declared.item.Arity.{Arity}
 use Rattle.sheet.specs.declared.item.Arity.the-variants.{Name, Data, Tick, Tuple, Binding}
-use Rattle.sheet.specs.declared.item.Constructor.{Constructor}
 use Rattle.sheet.specs.declared.item.Row.{Row}
 use Rattle.sheet.specs.declared.item.Row.the-variants.{Variable as variable-row, Apply as apply-row, Tuple as tuple-row, Bind as bind-row}
 use Rattle.sheet.specs.declared.item.Item.{Item}

@@ -8,3 +8,4 @@ pub mod Arities
 pub mod Growth
 pub mod Checks
 pub mod Tables
+pub mod WellFormed

@@ -1,5 +1,6 @@
 //! The check of a sheet.
 ghost use Rattle.sheet.specs.Checks.{Checked, OneAnswer};
+ghost use Rattle.sheet.specs.WellFormed.{LawfulIsWellFormed};
 use crate::source::SheetSource;
 use crate::tables::Tables;
 use refusals::Refusal;
@@ -8,6 +9,7 @@ use refusals::Refusal;
 pub fn check<S: SheetSource>(source: &S) -> Result<(), Refusal>
     ensures answer { λ r. ⌜ Checked (entries (now (source .entry))) r ⌝ }
     ensures one { λ _. ⌜ OneAnswer ⌝ }
+    ensures formed { λ _. ⌜ LawfulIsWellFormed ⌝ }
 {
     match Tables::load(source) {
         Ok(_) => Ok(()),

@@ -1,11 +1,11 @@
-use mathlib.Core.Path.{_≡_, sym, ap, _∙_}
-use mathlib.Core.Bool.{not, true, false}
+use mathlib.Core.Path.{sym, ap, _∙_}
+use mathlib.Core.Bool.{not}
 use native.Mathlib.Omega.{arith}
 use lib.Dec.{eqb}
 use lib.ListN.{getD}
 use Rattle.std.proofs.shelf.Maps.{nth-getD}
 use Rattle.std.proofs.shelf.Tests.{eq-eqb, ne-eqb}
-use Rattle.sheet.specs.Operands.{all, operand-list}
+use Rattle.sheet.specs.Operands.{operand-list}
 use Rattle.sheet.proofs.Walks.{all-stop, all-step, all-end}
 use Rattle.sheet.proofs.entry.Entry.nonzero_past.Needs as need
 

@@ -1,4 +1,4 @@
-use mathlib.Core.Path.{_≡_, refl, sym, ap, _∙_}
+use mathlib.Core.Path.{refl, sym, ap, _∙_}
 use Rattle.sheet.specs.Sheets.{declare-some}
 use Rattle.sheet.specs.Faults.{fault, fault-of}
 use Rattle.sheet.specs.Tables.{sheet-in}

@@ -1,4 +1,4 @@
-use mathlib.Core.Path.{_≡_, sym, ap, _∙_}
+use mathlib.Core.Path.{sym}
 use Rattle.std.proofs.shelf.Tests.{both-ways}
 use Rattle.sheet.specs.Growth.{grows}
 use Rattle.sheet.specs.Tables.{sheet-in}

@@ -1,10 +1,7 @@
-use native.Mathlib.Omega.{arith}
-use mathlib.Core.Path.{_≡_}
 use mathlib.Core.Bool.{false}
 use mathlib.Core.Logic.{inl, inr}
-use Prim.Native.Nat.{ℕ, _<_, _≤_}
-use lib.ListN.{replicate, getD}
-use Rattle.std.proofs.shelf.Lists.{getD-replicate, getD-past, length-replicate}
+use lib.ListN.{replicate}
+use Rattle.std.proofs.shelf.Lists.{getD-replicate, getD-past}
 use Rattle.std.proofs.shelf.Tests.{cases-lt}
 use Rattle.sheet.proofs.tables.trees.Marks.none.Needs as need
 
