@@ -380,17 +380,17 @@ extended-well : (S : Sheet) (e : Entry) → WellFormed S → fault S e ≡ None 
 unfolding fault item
 extended-well S e so-far none = extended-by S e (command (e .command)) so-far none
 
-nothing-told : {X : Type 0} (k : ℕ) (x : X) → _≡_ {A = Option X} None (Some x) → ⊥
-nothing-told k x is = let z : _≡_ {A = ℕ} 0 1 = cc in omega arith
+nothing-told : {X : Type 0} (x : X) → _≡_ {A = Option X} None (Some x) → ⊥
+nothing-told x is = let z : _≡_ {A = ℕ} 0 1 = cc in omega arith
 
 blank-well : WellFormed blank
 blank-well =
     record {
       limits = record { arities = omega arith; name-arities = omega arith; constructors = omega arith; variables = omega arith; name-variables = omega arith; rows = omega arith };
-      arities = λ a x is. absurd (nothing-told a x is);
-      constructors = λ c x is. absurd (nothing-told c x is);
-      variables = λ v a is. absurd (nothing-told v a is);
-      rows = λ r x is. absurd (nothing-told r x is);
+      arities = λ a x is. absurd (nothing-told x is);
+      constructors = λ c x is. absurd (nothing-told x is);
+      variables = λ v a is. absurd (nothing-told a is);
+      rows = λ r x is. absurd (nothing-told x is);
     }
 
 front-well : (es : List Entry) → Faultless es → (k : ℕ) → k ≤ length es → WellFormed (sheet-of (take k es))

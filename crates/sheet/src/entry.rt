@@ -5,7 +5,7 @@ ghost use lib.ListN.{getD};
 ghost use Rattle.sheet.specs.Operands.{operand-list, entry-of};
 
 /// A command byte and five operand bytes; operands that the command lacks are 0 in a lawful sheet.
-#[derive(Clone, Copy, PartialEq, Eq, Debug)]
+#[derive(Clone, Copy)]
 pub struct Entry {
     pub command: u8,
     pub a: u8,
