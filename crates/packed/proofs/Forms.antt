@@ -24,7 +24,7 @@ use Rattle.sheet.specs.Sheets.{Sheet, item, item-of, item-by, sheet-of}
 use Rattle.sheet.specs.Faults.{padded, fault-of, fault}
 use Rattle.sheet.specs.Checks.{Lawful}
 use Rattle.sheet.proofs.Forming.{clean}
-use Rattle.packed.specs.Packed.{width-of, bytes-of, packed-form, packed, end-byte, FrontWhole, FrontUnknown, FrontCut}
+use Rattle.packed.specs.Packed.{operand-count, bytes-of, packed-form, packed, end-byte, FrontWhole, FrontUnknown, FrontCut}
 use Rattle.packed.specs.Forms.{extent, no-entry, after-end, ending, byte-fault-at, byte-fault, Accepted, OneForm, ReadIsForm, FormReadsBack}
 use Rattle.packed.proofs.Packing.{stop-end, stop-unknown, stop-cut, opens, width-most, whole-known, packed-whole}
 
@@ -143,7 +143,7 @@ packed-spelt e rest s =
     let n = operands (s .is) in
     let xs = take n (operand-list e) in
     let long : length xs ≡ n = length-take-le n (operand-list e) (width-most (Some (s .is))) in
-    let bytes : bytes-of e ≡ e .command ∷ xs = ap (λ o. e .command ∷ take (width-of o) (operand-list e)) (s .known) in
+    let bytes : bytes-of e ≡ e .command ∷ xs = ap (λ o. e .command ∷ take (operand-count o) (operand-list e)) (s .known) in
     let some = whole-known (e .command) n (s .is) (xs ++ rest) (s .known) refl (omega (arith, length-append xs rest)) in
     ap (λ bs. packed (bs ++ rest)) bytes ∙ packed-whole (e .command) n (xs ++ rest) some
     ∙ ap (λ ys. entry-of (e .command) ys ∷ packed (drop n (xs ++ rest))) (take-at xs rest n long)

@@ -18,7 +18,7 @@ use Rattle.std.specs.declared.option.Option.the-variants.{Some}
 use Rattle.sheet.specs.declared.entry.Entry.{Entry}
 use Rattle.sheet.specs.Commands.{command}
 use Rattle.sheet.specs.Operands.{operand-list}
-use Rattle.packed.specs.Packed.{width-of, bytes-of, packed-form, end-byte}
+use Rattle.packed.specs.Packed.{operand-count, bytes-of, packed-form, end-byte}
 use Rattle.packed.proofs.Packing.{length-bytes}
 use Rattle.sheet.proofs.Walks.{told, told-below}
 
@@ -51,8 +51,8 @@ unfolding bytes-of
 byte-at e zero past below = absurd (omega arith)
 byte-at e (suc i) past below =
     let is : suc i - 1 ≡ i = omega arith in
-    let less : i < width-of (command (e .command)) = omega (arith, length-bytes e) in
-    ap (λ j. getD (operand-list e) j 0) is ∙ sym (getD-take (width-of (command (e .command))) (operand-list e) i 0 less)
+    let less : i < operand-count (command (e .command)) = omega (arith, length-bytes e) in
+    ap (λ j. getD (operand-list e) j 0) is ∙ sym (getD-take (operand-count (command (e .command))) (operand-list e) i 0 less)
 
 -- the command byte is laid first
 pub put-first : (e : Entry) (d : List ℕ) (at : ℕ) → at < length d → set d at (e .command) ≡ paste (set d at (e .command)) at (bytes-of e) 1

@@ -21,7 +21,7 @@ use Rattle.packed.specs.declared.source.Front.{Front}
 use Rattle.packed.specs.declared.source.Front.the-variants.{Whole, End, Unknown, Cut}
 use Rattle.sheet.specs.Commands.{command, operands}
 use Rattle.sheet.specs.Operands.{operand-list, entry-of}
-use Rattle.packed.specs.Packed.{Fronts, width-of, bytes-of, whole, command-then, packed-past, packed, FrontWhole, FrontUnknown, FrontCut, end-byte}
+use Rattle.packed.specs.Packed.{Fronts, operand-count, bytes-of, whole, command-then, packed-past, packed, FrontWhole, FrontUnknown, FrontCut, end-byte}
 
 pub widths : (c : Command) → (operands c ≤ 3) ⊎ (operands c ≡ 5)
 widths NameArity = inl (lit≤ tt)
@@ -36,12 +36,12 @@ widths ApplyRow = inl (lit≤ tt)
 widths TupleRow = inr refl
 widths BindRow = inl (lit≤ tt)
 
-pub width-most : (o : Option Command) → width-of o ≤ 5
+pub width-most : (o : Option Command) → operand-count o ≤ 5
 width-most None = omega arith
 width-most (Some c) = omega (arith, widths c)
 
 -- what `whole` answers
-whole-says : (n m : ℕ) (o : Option Command) → whole n o ≡ Some m → (width-of o ≡ m) × (m ≤ n)
+whole-says : (n m : ℕ) (o : Option Command) → whole n o ≡ Some m → (operand-count o ≡ m) × (m ≤ n)
 whole-says n m None is = let z : _≡_ {A = ℕ} 0 1 = cc in absurd (omega arith)
 whole-says n m (Some c) is = grind (arith, tells)
 
@@ -64,7 +64,7 @@ listed b (v ∷ w ∷ x ∷ y ∷ []) most = refl
 listed b (v ∷ w ∷ x ∷ y ∷ z ∷ []) most = refl
 listed b (v ∷ w ∷ x ∷ y ∷ z ∷ a ∷ xs) most = absurd (omega arith)
 
-pub bytes-whole : (b : ℕ) (xs : List ℕ) → width-of (command b) ≡ length xs → bytes-of (entry-of b xs) ≡ b ∷ xs
+pub bytes-whole : (b : ℕ) (xs : List ℕ) → operand-count (command b) ≡ length xs → bytes-of (entry-of b xs) ≡ b ∷ xs
 unfolding bytes-of
 bytes-whole b xs is =
     let most : length xs ≤ 5 = omega (arith, width-most (command b)) in
@@ -132,9 +132,9 @@ stop-cut bs (inl is) = ap packed is
 stop-cut bs (inr f) =
     ap packed (f .split) ∙ packed-none (f .byte) (f .rest) (ap (whole (length (f .rest))) (f .known) ∙ whole-cut _ (f .is) (f .short))
 
-pub length-bytes : (e : Entry) → length (bytes-of e) ≡ 1 + width-of (command (e .command))
+pub length-bytes : (e : Entry) → length (bytes-of e) ≡ 1 + operand-count (command (e .command))
 unfolding bytes-of
-length-bytes e = omega (arith, width-most (command (e .command)), length-take (width-of (command (e .command))) (operand-list e))
+length-bytes e = omega (arith, width-most (command (e .command)), length-take (operand-count (command (e .command))) (operand-list e))
 
 pub front-shorter : (bs : List ℕ) (e : Entry) (rest : List ℕ) → FrontWhole bs e rest → length bs ≡ length (bytes-of e) + length rest
 front-shorter bs e rest f = ap length (f .split) ∙ length-append (bytes-of e) rest

@@ -25,12 +25,13 @@ use Rattle.sheet.specs.Operands.{operand-list, entry-of}
 abbrev pub end-byte : ℕ
 end-byte = 0xFF
 
-abbrev pub width-of : Option Command → ℕ
-width-of None = 0
-width-of (Some c) = operands c
+-- how many operand bytes follow a byte: none where it is no command
+abbrev pub operand-count : Option Command → ℕ
+operand-count None = 0
+operand-count (Some c) = operands c
 
 unfoldable pub bytes-of : Entry → List ℕ
-bytes-of e = e .command ∷ take (width-of (command (e .command))) (operand-list e)
+bytes-of e = e .command ∷ take (operand-count (command (e .command))) (operand-list e)
 
 unfoldable pub packed-form : List Entry → List ℕ
 packed-form es = joined bytes-of es ++ end-byte ∷ []
