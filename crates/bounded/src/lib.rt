@@ -1,2 +1,4 @@
 //! A list of at most `N` elements, without a heap.
+#![tactic(auto)]
+
 pub mod list;

@@ -13,6 +13,7 @@
 //!     relation I J     the move, nothing, or refused
 //!
 //! Besides there are the lines `image G NAME` and `exchange NAME NAME`. Any other line is answered with bad.
+#![tactic(auto)]
 mod answer;
 mod call;
 mod fault;

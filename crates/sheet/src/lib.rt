@@ -1,4 +1,5 @@
 //! Sheets: what tells one, what its entries mean, and when it is lawful.
+#![tactic(auto)]
 pub mod check;
 pub mod command;
 pub mod entry;

@@ -1,6 +1,7 @@
 //! Tries the check, reading and writing on the sheets of standard input, and prints what they answer.
 //!
 //! A case is a line `LABEL packed HEX` or `LABEL records HEX`, with `-` for no bytes; a record has six bytes.
+#![tactic(auto)]
 mod answer;
 mod case;
 mod fault;

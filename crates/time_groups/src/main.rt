@@ -1,6 +1,7 @@
 //! Runs operations of groups and of the union-find many times, for a clock outside.
 //!
 //! A line of standard input is `OPERATION COUNT`. The answer repeats it, with a number made of all results.
+#![tactic(auto)]
 mod chains;
 mod fact;
 mod operation;

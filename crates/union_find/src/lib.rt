@@ -1,4 +1,5 @@
 //! A union-find whose links carry elements of a group: facts "member i is member j moved by g", over a lent table of links.
+#![tactic(auto)]
 ghost use Rattle.std.specs.Prelude.{◌≡◌, ◌<◌, ◌≤◌, List, [], length, MatchOption, OnOk, ◌≢◌};
 ghost use Rattle.union_find.specs.Facts.{members, Fact, Chain, Among};
 ghost use Rattle.union_find.specs.Tables.{Linked, Root, Way, Hung, Keeps, across as across-of, root_link as root-entry};
