@@ -1,5 +1,6 @@
 //! Groups: elements that are composed and undone, with the laws that a union-find rests on.
 #![tactic(auto)]
+
 ghost use Rattle.std.specs.Prelude.{◌≡◌, MatchBool, ◌≢◌};
 ghost use Rattle.groups.specs.Laws.{Laws};
 
