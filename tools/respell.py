@@ -52,7 +52,7 @@ mask-bit minus-ticks most-arities most-constructors most-name-arities most-name-
 most-variables m₀-lawful name-arities name-only name-variables names-names names-there new-said no-command
 no-entry no-facts no-ticks none-among none-some not-all not-before not-both not-here not-lawful not-refused
 not-twice not-whole nothing-told nth-kept nth-push old-said one-backwards one-refusal one-step one-telling
-ones-alone ones-ones ones-or opens-past opens-then operand-count operand-list operand-parts or-again
+ones-alone ones-or opens-past opens-then operand-count operand-list operand-parts or-again
 or-digits-lt or-one pack-equal pack-from pack-of-images packed-back packed-drop packed-few packed-form
 packed-past packed-spelt packed-whole parts-few parts-of passed-all passed-more past-test place-from
 present-arity present-row put-more read-is-form refuses-early refuses-not refuses-one renaming-laws rest-is

@@ -5,7 +5,7 @@
 use Rattle.std.proofs.Common.{◌≡◌, ℕ, zero, suc, ◌+◌, ◌-◌, ◌*◌, ◌/◌, ◌%◌, ◌^◌, ◌<◌, ◌≤◌, eqb, MatchBool, sym, refl, ap, ◌∙◌, subst, ap₂, inl, inr, add-zero, one-mul, pow-suc, arith}
 use native.Mathlib.Nat.{pow-le-pow_right}
 use lib.Bits.{bit_or, or_add_and, or_shr, or_mod, or_zero_r}
-use lib.Count.{ones, ones_step, ones_cat, ones_ones}
+use lib.Count.{ones, ones_step, ones_cat, ones-ones}
 use Rattle.std.proofs.lemmas.Nat.{pow_pos}
 use Rattle.std.proofs.lemmas.Bool.{cases_eq, cases_lt, cases_order, eq-eqb, ne_eqb}
 use Rattle.groups.specs.Renamings.{names, image, Lawful}
@@ -30,7 +30,7 @@ ones_or : (k a b : ℕ) → a < 2 ^ k → b < 2 ^ k → ones (bit_or a b) ≤ on
 ones_or zero a b p q =
     let ea : a ≡ 0 = omega arith in
     let eb : b ≡ 0 = omega arith in
-    rw (ea, eb) (omega (arith, ones_ones 0))
+    rw (ea, eb) (omega (arith, ones-ones 0))
 ones_or (suc k) a b p q =
     let s = pow-suc 2 k in
     let high = ones_or k (a / 2) (b / 2) (omega arith) (omega arith) in
@@ -38,7 +38,7 @@ ones_or (suc k) a b p q =
     omega (arith, ones_step a, ones_step b, ones_step (bit_or a b), or_mod a b 1, or_add_and (a % 2) (b % 2))
 
 ones_alone : (v : ℕ) → ones (1 * 2 ^ v) ≡ 1
-ones_alone v = ap ones (sym (add-zero (1 * 2 ^ v))) ∙ ones_cat v 1 0 (pow_pos v) ∙ omega (arith, ones_ones 1, ones_ones 0)
+ones_alone v = ap ones (sym (add-zero (1 * 2 ^ v))) ∙ ones_cat v 1 0 (pow_pos v) ∙ omega (arith, ones-ones 1, ones-ones 0)
 
 or_one : (x : ℕ) → x < 2 → bit_or x 1 ≡ 1
 or_one zero p = refl
@@ -85,7 +85,7 @@ module _ (p : ℕ → ℕ) where
         omega (arith, ones_alone (p k))
 
     seen_few : (k : ℕ) → ones (seen p k) ≤ k
-    seen_few zero = omega (arith, ones_ones 0)
+    seen_few zero = omega (arith, ones-ones 0)
     seen_few (suc k) = omega (arith, seen_few k, seen_more k)
 
     -- where two places are one, fewer bits are seen
@@ -111,7 +111,7 @@ lawful_seen n l =
 pub seen_lawful : (n : ℕ) → n < 16 ^ names → seen (image n) names ≡ 2 ^ names - 1 → Lawful n
 seen_lawful n h e =
     let not_twice : (i j : ℕ) → i < j → j < names → image n i ≡ image n j → ⊥ = λ i j p q same.
-    (let t = seen_twice (image n) 16 (image-lt n) names i j p q same in let o = ap ones e in omega (arith, ones_ones names)) in
+    (let t = seen_twice (image n) 16 (image-lt n) names i j p q same in let o = ap ones e in omega (arith, ones-ones names)) in
     record {
       higher = h;
       range = λ i p.

@@ -23,7 +23,7 @@ fn width(entry: Entry) -> usize
 
 // Whether the entries take fewer than `room` bytes.
 fn fits<S: SheetSource>(source: &S, room: usize) -> bool
-    ensures { result ≡ nat_lt (length (flat_map bytes_of (entries source.now))) room }
+    ensures { result ≡ nat_lt (length (flat_map bytes_of (S.entries source.now))) room }
 {
     let mut left = room;
     for k in 0..source.count() {
@@ -57,7 +57,7 @@ fn put(buffer: &mut [u8], at: usize, e: Entry) -> usize
 
 /// Writes the packed form at the start of the buffer and answers its number of bytes.
 pub fn write<S: SheetSource>(source: &S, buffer: &mut [u8]) -> Result<usize, Refusal>
-    ensures answer { Written (entries source.now) buffer.old result buffer.new }
+    ensures answer { Written (S.entries source.now) buffer.old result buffer.new }
     ensures back { FormReadsBack }
 {
     check(source)?;

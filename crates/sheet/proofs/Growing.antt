@@ -4,7 +4,7 @@ use Rattle.std.specs.List.{slice_get}
 use Rattle.std.proofs.lemmas.List.{drop_all, get_or-set_other}
 use Rattle.std.proofs.lemmas.Bool.{and_parts, and_from, or_cases, or_left, or_right, eqb-true, eq-eqb, false≢true, cases_eq}
 use Rattle.trees.specs.Trees.{Tree, name, tick, con, unit, pair, bind}
-use Rattle.sheet.specs.declared.tables.trees.Marks.{Marks}
+use Rattle.sheet.specs.declared.tables.marks.Marks.{Marks}
 use Rattle.sheet.specs.declared.item.Arity.{Arity}
 use Rattle.sheet.specs.declared.item.Arity.TheVariants.{Name, Data, Tick, Tuple, Binding}
 use Rattle.sheet.specs.declared.item.Constructor.{Constructor}

@@ -7,7 +7,7 @@
 -- Sweeps S m r n  from m to n: r says whether anything was added
 use Rattle.std.specs.Prelude.{◌≡◌, ℕ, ◌+◌, ◌<◌, Bool, true, false, cond, ◌&&◌, ◌||◌, List, [], ◌∷◌, Some, None, Option, ◌==◌, slice_index_or}
 use Rattle.std.specs.List.{slice_get}
-use Rattle.sheet.specs.declared.tables.trees.Marks.{Marks}
+use Rattle.sheet.specs.declared.tables.marks.Marks.{Marks}
 use Rattle.sheet.specs.declared.item.Arity.{Arity}
 use Rattle.sheet.specs.declared.item.Arity.TheVariants.{Name, Data, Tick, Tuple, Binding}
 use Rattle.sheet.specs.declared.item.Constructor.{Constructor}

@@ -8,7 +8,7 @@ use refusals::Refusal;
 
 /// Whether the sheet is lawful: the first faulty entry declines it, or else the lowest data arity without trees.
 pub fn check<S: SheetSource>(source: &S) -> Result<(), Refusal>
-    ensures answer { Checked (entries source.now) result }
+    ensures answer { Checked (S.entries source.now) result }
     ensures one { OneAnswer }
     ensures formed { LawfulIsWellFormed }
 {

@@ -10,7 +10,7 @@ use crate::item::{Arity, Constructor, Parts, Row};
 use bounded::list::Bounded;
 
 mod faults;
-mod trees;
+mod marks;
 
 /// How much a lawful sheet may have.
 pub const ARITIES: usize = 64;

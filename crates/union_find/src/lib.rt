@@ -1,8 +1,9 @@
 //! A union-find whose links carry elements of a group: facts "member i is member j moved by g", over a lent table of links.
 #![tactic(auto)]
+
 ghost use Rattle.std.specs.Prelude.{◌≡◌, ◌<◌, ◌≤◌, List, [], length, MatchOption, OnOk, ◌≢◌};
 ghost use Rattle.union_find.specs.Facts.{members, Fact, Chain, Among};
-ghost use Rattle.union_find.specs.Tables.{Linked, Root, Way, Hung, Keeps, across as across-of, root_link as root-entry};
+ghost use Rattle.union_find.specs.Tables.{Linked, Root, Way, Hung, Keeps, across as across_of, root_link as root-entry};
 ghost use Rattle.union_find.specs.Calls.{Accepts, Refuses, Opened, Tells, Answers, After, facts_after, OneTelling, OneAnswer, refused as no_place};
 
 pub mod link;
@@ -87,7 +88,7 @@ fn climb<G: Group>(table: &[Link<G>], i: usize) -> Top<G>
 
 // The move that makes a member of another, where their ways up meet.
 fn between<G: Group>(a: Top<G>, b: Top<G>) -> G
-    ensures { lawful a.step → lawful b.step → result ≡ compose a.step (inverse b.step) }
+    ensures { G.lawful a.step → G.lawful b.step → result ≡ G.compose a.step (G.inverse b.step) }
 {
     a.step.compose(b.step.inverse())
 }
@@ -110,7 +111,7 @@ fn hang<G: Group>(table: &mut [Link<G>], a: usize, b: usize, step: G)
     requires room { members ≤ length table.old }
     requires member { a < members }
     requires lower { b < a }
-    requires fair { lawful step }
+    requires fair { G.lawful step }
     ensures { Hung G.Group table.old table.new a b step }
 {
     for k in a + 1..MEMBERS {
@@ -129,9 +130,9 @@ fn hang<G: Group>(table: &mut [Link<G>], a: usize, b: usize, step: G)
 
 // The move that makes the root a of the root b, where what hangs by a is what hangs by b moved by g.
 fn across<G: Group>(a: Top<G>, b: Top<G>, g: G) -> G
-    requires fair { lawful a.step × lawful b.step × lawful g }
-    ensures is { result ≡ across-of G.Group a.step g b.step }
-    ensures fair { lawful result }
+    requires fair { G.lawful a.step × G.lawful b.step × G.lawful g }
+    ensures is { result ≡ across_of G.Group a.step g b.step }
+    ensures fair { G.lawful result }
 {
     a.step.inverse().compose(g.compose(b.step))
 }
@@ -142,9 +143,9 @@ fn join<G: Group>(table: &mut [Link<G>], a: Top<G>, b: Top<G>, g: G)
     requires from { a.root < members }
     requires to { b.root < members }
     requires apart { a.root ≢ b.root }
-    requires fair { lawful a.step × lawful b.step × lawful g }
-    ensures left { b.root < a.root → Hung G.Group table.old table.new a.root b.root (across-of G.Group a.step g b.step) }
-    ensures right { a.root < b.root → Hung G.Group table.old table.new b.root a.root (inverse (across-of G.Group a.step g b.step)) }
+    requires fair { G.lawful a.step × G.lawful b.step × G.lawful g }
+    ensures left { b.root < a.root → Hung G.Group table.old table.new a.root b.root (across_of G.Group a.step g b.step) }
+    ensures right { a.root < b.root → Hung G.Group table.old table.new b.root a.root (G.inverse (across_of G.Group a.step g b.step)) }
 {
     let step = across(a, b, g);
     if b.root < a.root {

@@ -1,7 +1,7 @@
 use Rattle.std.proofs.Common.{◌≡◌, ◌+◌, sym, subst, arith}
 use Rattle.union_find.proofs.Hanging.{Hanging, hang_start, hang_leave, hang_lift, hang_end}
 use Rattle.union_find.proofs.hang.Goals as goal
-use Rattle.union_find.proofs.hang.Goals.{in-Some, in-default}
+use Rattle.union_find.proofs.hang.Goals.{in-Some, in_default}
 
 pub loop-k-init : goal.loop-k-init
 loop-k-init g c = hang_start
@@ -12,13 +12,13 @@ loop-k-preserved g c =
     let before = c.loop-k.invariant in
     let p = c.requires.room in
     let i = c.loop-k-test.true in
-    elim c.match-step-below.branch [
+    elim c.match-step_below.branch [
       | in-Some w ↦
           let f = w.in-Some.ensures in
           let lifted = hang_lift before (omega arith) f _ (w.compose.ensures f.fair c.requires.fair) in
           subst (λ t. Hanging G c.args.table.now t c.args.a c.args.b c.args.step (c.loop-k.k + 1)) (sym w.table-is) lifted
-      | in-default w ↦
-          let left = hang_leave before w.in-default.ensures in
+      | in_default w ↦
+          let left = hang_leave before w.in_default.ensures in
           subst (λ t. Hanging G c.args.table.now t c.args.a c.args.b c.args.step (c.loop-k.k + 1)) (sym w.table-is) left
     ]
 

@@ -11,17 +11,17 @@ returns-in-Some g c =
     let no = refuses_early _ c.in-Some.ensures in
     record { facts = λ fs k. (no, k); table = (no, refl); one = one_answer _ g.G.Group _ _ _ _ }
 
-pub returns-then-not-is-lawful : goal.returns-then-not-is-lawful
-returns-then-not-is-lawful g c =
-    let a = c.in-default.ensures in
-    let no = subst (Refuses _ _ _ _) (sym c.refused.ensures) (unlawful a.room a.from a.to c.if-not-is-lawful.ensures) in
+pub returns-then-not-is_lawful : goal.returns-then-not-is_lawful
+returns-then-not-is_lawful g c =
+    let a = c.in_default.ensures in
+    let no = subst (Refuses _ _ _ _) (sym c.refused.ensures) (unlawful a.room a.from a.to c.if-not-is_lawful.ensures) in
     record { facts = λ fs k. (no, k); table = (no, refl); one = one_answer _ g.G.Group _ _ _ _ }
 
 pub returns-then-equals : goal.returns-then-equals
 returns-then-equals g c =
     let a = c.climb-a.ensures in
     let b = c.climb-b.ensures in
-    let yes = accepts_move c.in-default.ensures c.if-not-is-lawful.ensures in
+    let yes = accepts_move c.in_default.ensures c.if-not-is_lawful.ensures in
     let told = told_some g.G.Group g.met.G.Group.group a.way a.root b.way b.root c.if-a-b.true _
     (λ x y. sym c.if-equals.ensures ∙ c.between-told.ensures x y) in
     record { facts = λ fs k. ((yes, kept_told k told), k); table = ((yes, told), refl); one = one_answer _ g.G.Group _ _ _ _ }
@@ -30,7 +30,7 @@ pub returns-then-a-b : goal.returns-then-a-b
 returns-then-a-b g c =
     let a = c.climb-a.ensures in
     let b = c.climb-b.ensures in
-    let yes = accepts_move c.in-default.ensures c.if-not-is-lawful.ensures in
+    let yes = accepts_move c.in_default.ensures c.if-not-is_lawful.ensures in
     let told = told_some g.G.Group g.met.G.Group.group a.way a.root b.way b.root c.if-a-b.true _ c.between-told.ensures in
     let other = c.if-equals.ensures in
     record { facts = λ fs k. ((yes, (kept_told k told, other)), k); table = ((yes, (told, other)), refl); one = one_answer _ g.G.Group _ _ _ _ }
@@ -42,11 +42,11 @@ join-requires g c =
     let a = c.climb-a.ensures.way in
     let b = c.climb-b.ensures.way in
     record {
-      room = c.in-default.ensures.room;
+      room = c.in_default.ensures.room;
       from = way_to G L a;
       to = way_to G L b;
       apart = c.if-a-b.false;
-      fair = (way_lawful G L a, way_lawful G L b, c.if-not-is-lawful.ensures);
+      fair = (way_lawful G L a, way_lawful G L b, c.if-not-is_lawful.ensures);
     }
 
 pub returns : goal.returns
@@ -55,8 +55,8 @@ returns g c =
     let L = g.met.G.Group.group in
     let a = c.climb-a.ensures in
     let b = c.climb-b.ensures in
-    let ok = c.in-default.ensures in
-    let l = c.if-not-is-lawful.ensures in
+    let ok = c.in_default.ensures in
+    let l = c.if-not-is_lawful.ensures in
     let yes = accepts_move ok l in
     let told = told_none G L a.way a.root b.way b.root c.if-a-b.false in
     let new : Changed G c.args.table.now c.join.new.table c.args.i c.args.j c.args.g = record {

@@ -7,7 +7,7 @@ returns-in-Some c = record { answer = inl (sym c.in-Some.ensures); form = read_i
 
 pub returns-in-Ok : goal.returns-in-Ok
 returns-in-Ok c =
-    record { answer = ((sym c.in-default.ensures, c.in-Ok.ensures.answer), c.count.ensures); form = read_is_form; one = one_form }
+    record { answer = ((sym c.in_default.ensures, c.in-Ok.ensures.answer), c.count.ensures); form = read_is_form; one = one_form }
 
 pub returns-in-Err : goal.returns-in-Err
-returns-in-Err c = record { answer = inr (sym c.in-default.ensures, c.in-Err.ensures.answer); form = read_is_form; one = one_form }
+returns-in-Err c = record { answer = inr (sym c.in_default.ensures, c.in-Err.ensures.answer); form = read_is_form; one = one_form }

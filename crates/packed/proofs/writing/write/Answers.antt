@@ -8,17 +8,17 @@ use Rattle.packed.proofs.Forms.{form_reads_back}
 use Rattle.packed.proofs.Laying.{wide, taken, lay_more, lay_all, length_form, fronts_fit}
 use Rattle.packed.proofs.writing.write.Goals as goal
 
-pub returns-in-err-check : goal.returns-in-err-check
-returns-in-err-check g c =
-    let p = err_from_is_err_and c.from-residual.result c.from-residual.ensures.1 in
-    rw (p.1, p.2) (record { answer = (inl c.in-err-check.ensures.answer, refl); back = form_reads_back })
+pub returns-in_err-check : goal.returns-in_err-check
+returns-in_err-check g c =
+    let p = err_from_is_err_and c.from_residual.result c.from_residual.ensures.1 in
+    rw (p.1, p.2) (record { answer = (inl c.in_err-check.ensures.answer, refl); back = form_reads_back })
 
 pub returns-then-not-fits : goal.returns-then-not-fits
 returns-then-not-fits g c =
     let es = g.S.SheetSource.entries c.args.source.now in
     let full = ltb-false (wide es) (length c.args.buffer.now) (sym c.if-not-fits.ensures) in
     record {
-      answer = (inr (record { lawful = c.in-ok-check.ensures.answer; short = omega (arith, length_form es); is = refl }), refl);
+      answer = (inr (record { lawful = c.in_ok-check.ensures.answer; short = omega (arith, length_form es); is = refl }), refl);
       back = form_reads_back;
     }
 
@@ -40,12 +40,12 @@ loop-k-preserved g c =
 pub bounds-buffer-at : goal.bounds-buffer-at
 bounds-buffer-at g c = omega (arith, fronts_fit _ c.loop-k.k (length c.args.buffer.now) c.if-not-fits.ensures)
 
-pub overflow-add-result : goal.overflow-add-result
-overflow-add-result g c = omega (arith, fronts_fit _ c.loop-k.k (length c.args.buffer.now) c.if-not-fits.ensures)
+pub overflow_add-result : goal.overflow_add-result
+overflow_add-result g c = omega (arith, fronts_fit _ c.loop-k.k (length c.args.buffer.now) c.if-not-fits.ensures)
 
 pub returns : goal.returns
 returns g c =
     let es = g.S.SheetSource.entries c.args.source.now in
     let room = fronts_fit es c.loop-k.k (length c.args.buffer.now) c.if-not-fits.ensures in
     let all = lay_all es c.args.buffer.now c.loop-k.buffer c.loop-k.k c.loop-k.at (omega arith) c.loop-k.invariant.0 c.loop-k.invariant.1 (omega arith) in
-    record { answer = (c.in-ok-check.ensures.answer, all.0, omega arith, all.1); back = form_reads_back }
+    record { answer = (c.in_ok-check.ensures.answer, all.0, omega arith, all.1); back = form_reads_back }

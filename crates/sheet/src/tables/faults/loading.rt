@@ -120,7 +120,7 @@ impl Tables {
 
     /// The sheet that a source tells, or why it is not lawful.
     pub fn load<S: SheetSource>(source: &S) -> Result<Tables, Refusal>
-        ensures { Loaded (entries source.now) result }
+        ensures { Loaded (S.entries source.now) result }
     {
         let mut tables = Tables::new();
         for k in 0..source.count() {

@@ -14,9 +14,9 @@ returns-then-from-n c =
     sym (all_stop (λ x. ltb x c.args.n) (parts c.args.self) c.loop-i.i k (sym c.in-Some.ensures) (le-ltb k c.args.n (omega (arith, c.from.ensures))))
     ∙ c.loop-i.invariant
 
-pub returns-in-default : goal.returns-in-default
-returns-in-default c =
-    sym (all_end (λ x. ltb x c.args.n) (parts c.args.self) c.loop-i.i (untold (parts c.args.self) c.loop-i.i (sym c.get.ensures ∙ c.in-default.is)))
+pub returns-in_default : goal.returns-in_default
+returns-in_default c =
+    sym (all_end (λ x. ltb x c.args.n) (parts c.args.self) c.loop-i.i (untold (parts c.args.self) c.loop-i.i (sym c.get.ensures ∙ c.in_default.is)))
     ∙ c.loop-i.invariant
 
 pub loop-i-preserved : goal.loop-i-preserved

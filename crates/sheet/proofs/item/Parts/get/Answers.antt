@@ -18,5 +18,5 @@ returns-in-2 c = grind (arith, slice_get-take)
 pub returns-in-3 : goal.returns-in-3
 returns-in-3 c = grind (arith, slice_get-take)
 
-pub returns-in-default : goal.returns-in-default
-returns-in-default c = grind (arith, slice_get-take, slice_get_past)
+pub returns-in_default : goal.returns-in_default
+returns-in_default c = grind (arith, slice_get-take, slice_get_past)

@@ -4,14 +4,14 @@ use Rattle.sheet.specs.Faults.{fault, fault_of}
 use Rattle.sheet.specs.Tables.{sheet_in}
 use Rattle.sheet.proofs.tables.Tables.admit.Goals as goal
 
-pub returns-in-default : goal.returns-in-default
+pub returns-in_default : goal.returns-in_default
 unfolding fault
-returns-in-default c = (ap (fault_of (sheet_in c.args.self.now) c.args.e) (sym c.in-default.ensures), refl)
+returns-in_default c = (ap (fault_of (sheet_in c.args.self.now) c.args.e) (sym c.in_default.ensures), refl)
 
-pub returns-in-Some-item-fault : goal.returns-in-Some-item-fault
+pub returns-in-Some-item_fault : goal.returns-in-Some-item_fault
 unfolding fault
-returns-in-Some-item-fault c =
-    (ap (fault_of (sheet_in c.args.self.now) c.args.e) (sym c.in-Some.ensures) ∙ sym c.in-Some-item-fault.ensures, refl)
+returns-in-Some-item_fault c =
+    (ap (fault_of (sheet_in c.args.self.now) c.args.e) (sym c.in-Some.ensures) ∙ sym c.in-Some-item_fault.ensures, refl)
 
 pub returns-in-None : goal.returns-in-None
 unfolding fault

@@ -6,7 +6,7 @@ use Rattle.sheet.proofs.tables.Tables.item.Goals as goal
 pub returns-in-Some : goal.returns-in-Some
 unfolding item
 returns-in-Some c =
-    ap (λ i. Some i) c.item-by.ensures ∙ ap (item_of (sheet_in c.args.self.now) c.args.e) c.in-Some.ensures
+    ap (λ i. Some i) c.item_by.ensures ∙ ap (item_of (sheet_in c.args.self.now) c.args.e) c.in-Some.ensures
 
 pub returns-in-None : goal.returns-in-None
 unfolding item

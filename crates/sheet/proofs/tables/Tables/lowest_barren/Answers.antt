@@ -11,7 +11,7 @@ use Rattle.sheet.specs.declared.item.Arity.TheVariants.{Data}
 use Rattle.sheet.proofs.Growing.{every_tree, data_only}
 use Rattle.sheet.proofs.Walks.{told_below}
 use Rattle.sheet.proofs.tables.Tables.lowest_barren.Goals as goal
-use Rattle.sheet.proofs.tables.Tables.lowest_barren.Goals.{else-names-data-via-then-names-data+else-not-has, else-names-data-via-else-names-data}
+use Rattle.sheet.proofs.tables.Tables.lowest_barren.Goals.{else-names_data-via-then-names_data+else-not-has, else-names_data-via-else-names_data}
 
 pub returns-then-not-has : goal.returns-then-not-has
 returns-then-not-has c =
@@ -20,7 +20,7 @@ returns-then-not-has c =
     let a = c.loop-a.a in
     let few = items_few c.args.self.now.arities in (
       (
-        data_only (slice_get S.arities a) (sym c.if-names-data.ensures),
+        data_only (slice_get S.arities a) (sym c.if-names_data.ensures),
         λ tree. both_ways (marked m a) (sym c.if-not-has.ensures) (every_tree S m c.inhabited-marks.ensures.closed few tree.0 a tree.1),
       ),
       c.loop-a.invariant,
@@ -31,9 +31,9 @@ loop-a-preserved c =
     let S = sheet_in c.args.self.now in
     let a = c.loop-a.a in
     below_more (λ k. slice_get S.arities k ≡ Some Data → Inhabited S k) a c.loop-a.invariant
-    (elim c.else-names-data.branch [
-      | else-names-data-via-then-names-data+else-not-has w ↦ λ _. c.inhabited-marks.ensures.sound a (sym w.if-not-has.ensures)
-      | else-names-data-via-else-names-data w ↦ λ is. absurd (both_ways (holds is_data (slice_get S.arities a)) (sym w.if-names-data.ensures) (ap (holds is_data) is))
+    (elim c.else-names_data.branch [
+      | else-names_data-via-then-names_data+else-not-has w ↦ λ _. c.inhabited-marks.ensures.sound a (sym w.if-not-has.ensures)
+      | else-names_data-via-else-names_data w ↦ λ is. absurd (both_ways (holds is_data (slice_get S.arities a)) (sym w.if-names_data.ensures) (ap (holds is_data) is))
     ])
 
 pub returns : goal.returns

@@ -4,10 +4,10 @@ use Rattle.sheet.proofs.Growing.{made_here, made_later, made_never}
 use Rattle.sheet.proofs.Walks.{untold}
 use Rattle.sheet.proofs.tables.Tables.makes_one.Goals as goal
 
-pub returns-in-default : goal.returns-in-default
-returns-in-default c =
+pub returns-in_default : goal.returns-in_default
+returns-in_default c =
     let xs = items c.args.self.now.constructors in
-    sym (made_never c.args.marks.now c.args.a xs c.loop-k.k (untold xs c.loop-k.k (sym c.get.ensures ∙ c.in-default.is))) ∙ c.loop-k.invariant
+    sym (made_never c.args.marks.now c.args.a xs c.loop-k.k (untold xs c.loop-k.k (sym c.get.ensures ∙ c.in_default.is))) ∙ c.loop-k.invariant
 
 pub returns-then-serves : goal.returns-then-serves
 returns-then-serves c =

@@ -6,10 +6,10 @@ use Rattle.sheet.specs.Tables.{sheet_in}
 use Rattle.sheet.proofs.Walks.{count_more, count_all, untold}
 use Rattle.sheet.proofs.tables.Tables.name_variables.Goals as goal
 
-pub returns-in-default : goal.returns-in-default
-returns-in-default c =
+pub returns-in_default : goal.returns-in_default
+returns-in_default c =
     let xs = items c.args.self.now.variables in
-    count_all (names_names (sheet_in c.args.self.now)) xs c.loop-v.v c.loop-v.n _ (untold xs c.loop-v.v (sym c.get.ensures ∙ c.in-default.is)) c.loop-v.invariant.1
+    count_all (names_names (sheet_in c.args.self.now)) xs c.loop-v.v c.loop-v.n _ (untold xs c.loop-v.v (sym c.get.ensures ∙ c.in_default.is)) c.loop-v.invariant.1
 
 pub loop-v-preserved : goal.loop-v-preserved
 loop-v-preserved c =

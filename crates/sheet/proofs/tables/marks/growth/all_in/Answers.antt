@@ -3,14 +3,14 @@ use Rattle.sheet.specs.Parts.{parts}
 use Rattle.sheet.specs.Growth.{marked}
 use Rattle.sheet.proofs.Walks.{all_stop, all_step, all_end, untold}
 use Rattle.sheet.proofs.Few.{parts_few}
-use Rattle.sheet.proofs.tables.trees.growth.all_in.Goals as goal
+use Rattle.sheet.proofs.tables.marks.growth.all_in.Goals as goal
 
 pub loop-i-init : goal.loop-i-init
 loop-i-init c = refl
 
-pub returns-in-default : goal.returns-in-default
-returns-in-default c =
-    sym (all_end (marked c.args.marks.now) (parts c.args.ps) c.loop-i.i (untold (parts c.args.ps) c.loop-i.i (sym c.get.ensures ∙ c.in-default.is)))
+pub returns-in_default : goal.returns-in_default
+returns-in_default c =
+    sym (all_end (marked c.args.marks.now) (parts c.args.ps) c.loop-i.i (untold (parts c.args.ps) c.loop-i.i (sym c.get.ensures ∙ c.in_default.is)))
     ∙ c.loop-i.invariant
 
 pub returns-then-not-has : goal.returns-then-not-has

@@ -6,7 +6,7 @@ ghost use Rattle.sheet.specs.Growth.{marked, serves, grows, makes_one, all_marke
 ghost use Rattle.sheet.specs.Tables.{sheet_in, LowestBarrenIn};
 
 use crate::item::{Arity, Constructor, Parts};
-use crate::tables::trees::Marks;
+use crate::tables::marks::Marks;
 use crate::tables::{ARITIES, PARTS, Tables};
 
 impl Marks {
