@@ -14,6 +14,7 @@
 //!
 //! Besides there are the lines `image G NAME` and `exchange NAME NAME`. Any other line is answered with bad.
 #![tactic(auto)]
+
 mod answer;
 mod call;
 mod fault;

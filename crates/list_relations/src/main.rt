@@ -4,6 +4,7 @@
 //! says that segment 3 starts 40 ticks after segment 1. After `zones`, `2 0 1023456789` says that zone k of kiln 0
 //! is zone d of kiln 2, where d is the k-th digit, counted from 0. `3 1 ?` asks what is known of 3 and 1.
 #![tactic(auto)]
+
 mod answer;
 mod line;
 mod wording;

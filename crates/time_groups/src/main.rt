@@ -2,6 +2,7 @@
 //!
 //! A line of standard input is `OPERATION COUNT`. The answer repeats it, with a number made of all results.
 #![tactic(auto)]
+
 mod chains;
 mod fact;
 mod operation;
