@@ -17,6 +17,10 @@ FACTS = {
     "◌free-in◌": "◌FreeIn◌",
     # port.py takes this hypothesis for a fact.
     "Clean-All": "clean_all",
+    # Other names under which clauses import definitions.
+    "image-of": "image_of",
+    "command-of": "command_of",
+    "root-entry": "root_entry",
 }
 
 # The dash joins two names: of the function `pack_from` with `lt`, of `slice_get` with `take`.
@@ -50,9 +54,9 @@ lay-all lay-end lay-more lay-on left-inverse left-out-set length-bytes length-fo
 linked-sound longer-arities longer-variables lowest-barren made-here made-later made-never maker-later makes-a
 mask-bit minus-ticks most-arities most-constructors most-name-arities most-name-variables most-parts most-rows
 most-variables m₀-lawful name-arities name-only name-variables names-names names-there new-said no-command
-no-entry no-facts no-ticks none-among none-some not-all not-before not-both not-here not-lawful not-refused
-not-twice not-whole nothing-told nth-kept nth-push old-said one-backwards one-refusal one-step one-telling
-ones-alone ones-or opens-past opens-then operand-count operand-list operand-parts or-again
+no-entry no-facts no-ticks none-among none-some nonzero-past not-all not-before not-both not-here not-lawful
+not-refused not-twice not-whole nothing-told nth-kept nth-push old-said one-backwards one-refusal one-step
+one-telling ones-alone ones-or opens-past opens-then operand-count operand-list operand-parts or-again
 or-digits-lt or-one pack-equal pack-from pack-of-images packed-back packed-drop packed-few packed-form
 packed-past packed-spelt packed-whole parts-few parts-of passed-all passed-more past-test place-from
 present-arity present-row put-more read-is-form refuses-early refuses-not refuses-one renaming-laws rest-is

@@ -1,6 +1,6 @@
 -- Ticks: numbers of 32 bits, composed by addition modulo 2 ^ 32.
 --
---   LawfulTick t                           t is a number of 32 bits; every tick of a program is
+--   LawfulTick t                            t is a number of 32 bits; every tick of a program is
 --   no_ticks, add_ticks x y, minus_ticks x  ticks as a group
 use Rattle.std.specs.Prelude.{ℕ, ◌+◌, ◌-◌, ◌%◌, ◌^◌, ◌<◌}
 use Rattle.groups.specs.declared.tick.Tick.{Tick}

@@ -1,6 +1,6 @@
 //! Renamings of names, packed into a number.
 ghost use Rattle.std.specs.Prelude.{◌≡◌};
-ghost use Rattle.groups.specs.Renamings.{image as image-of, LawfulRenaming, identity_renaming, compose_renamings, inverse_renaming, exchange as exchanged};
+ghost use Rattle.groups.specs.Renamings.{image as image_of, LawfulRenaming, identity_renaming, compose_renamings, inverse_renaming, exchange as exchanged};
 ghost use Rattle.groups.specs.RenamingsLemmas.{renaming_laws};
 
 use crate::Group;
@@ -17,7 +17,7 @@ pub struct Renaming {
 impl Renaming {
     /// The image of a name, for every number of 64 bits; 0 for what is past its bits.
     pub fn image(self, name: u8) -> u8
-        ensures { result ≡ image-of self.bits name }
+        ensures { result ≡ image_of self.bits name }
     {
         if name < 16 {
             ((self.bits >> (4 * name)) & 15) as u8

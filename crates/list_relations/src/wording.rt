@@ -1,6 +1,6 @@
 //! How moves are read from a line and said in an answer.
 ghost use Rattle.std.specs.Prelude.{◌≡◌, ℕ, ◌+◌, ◌<◌, length, IfSome, slice_index_or};
-ghost use Rattle.groups.specs.Renamings.{names, image as image-of};
+ghost use Rattle.groups.specs.Renamings.{names, image as image_of};
 
 use groups::Group;
 use groups::renaming::{NAMES, Renaming};
@@ -70,7 +70,7 @@ fn value(c: u8) -> Option<u8>
 
 // The renaming whose images are these digits, the image of name 0 first.
 fn renaming_of(digits: &[u8]) -> Option<Renaming>
-    ensures { IfSome result (λ x. (length digits.now ≡ names) × ((k d : ℕ) → k < names → 48 + image-of x.bits k ≡ slice_index_or digits.now k d)) }
+    ensures { IfSome result (λ x. (length digits.now ≡ names) × ((k d : ℕ) → k < names → 48 + image_of x.bits k ≡ slice_index_or digits.now k d)) }
 {
     if digits.len() != usize::from(NAMES) {
         return None;

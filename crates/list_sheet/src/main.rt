@@ -1,5 +1,6 @@
 //! Lists a packed sheet of standard input in words, or says why it is refused.
 #![tactic(auto)]
+
 ghost use Rattle.std.specs.Prelude.{◌≡◌, ◌≤◌, true, length};
 ghost use Rattle.packed.specs.Forms.{Accepted};
 ghost use Rattle.list_sheet.specs.Listed.{Listed};

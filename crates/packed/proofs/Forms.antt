@@ -9,7 +9,7 @@ use Rattle.sheet.specs.declared.entry.Entry.{Entry}
 use Rattle.sheet.specs.declared.command.Command.{Command}
 use Rattle.sheet.specs.declared.command.Command.TheVariants.{NameArity, DataArity, TickArity, TupleArity, BindingArity, Constructor, Variable, VariableRow, ApplyRow, TupleRow, BindRow}
 use Rattle.sheet.specs.Commands.{command, operands}
-use Rattle.sheet.specs.Operands.{all, operand_list, nonzero-past, entry_of}
+use Rattle.sheet.specs.Operands.{all, operand_list, nonzero_past, entry_of}
 use Rattle.sheet.specs.Sheets.{Sheet, item, item_of, item_by, sheet_of}
 use Rattle.sheet.specs.Faults.{padded, fault_of, fault}
 use Rattle.sheet.specs.Checks.{Lawful}
@@ -99,7 +99,7 @@ zeros (suc n) [] i nil = refl
 zeros (suc n) (x ∷ xs) zero nil = refl
 zeros (suc n) (x ∷ xs) (suc i) nil = zeros n xs i nil
 
-filled : (n : ℕ) (e : Entry) → nonzero-past n e ≡ false → entry_of e.command (take n (operand_list e)) ≡ e
+filled : (n : ℕ) (e : Entry) → nonzero_past n e ≡ false → entry_of e.command (take n (operand_list e)) ≡ e
 filled n e none =
     let nil = not-false _ none in
     let at : (i : ℕ) → get_or (take n (operand_list e)) i 0 ≡ get_or (operand_list e) i 0 = λ i. zeros n (operand_list e) i nil in

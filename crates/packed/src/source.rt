@@ -1,7 +1,7 @@
 //! Packed sheets: the commands in order, each with its own operands, and an end byte.
 ghost use Rattle.std.specs.Prelude.{◌≡◌, ◌∷◌, Some};
 ghost use Rattle.packed.specs.declared.source.Front.TheVariants.{Whole};
-ghost use Rattle.sheet.specs.Commands.{command as command-of};
+ghost use Rattle.sheet.specs.Commands.{command as command_of};
 ghost use Rattle.packed.specs.Packed.{packed, Fronts};
 
 use sheet::command::Command;
@@ -49,7 +49,7 @@ fn whole<'a>(entry: Entry, rest: &'a [u8]) -> Front<'a>
 
 // The command with the operands that it takes from the bytes after it.
 fn operands<'a>(byte: u8, command: Command, bytes: &'a [u8]) -> Front<'a>
-    requires { command-of byte ≡ Some command }
+    requires { command_of byte ≡ Some command }
     ensures { Fronts (byte ∷ bytes.now) result }
 {
     match command.operands() {

@@ -19,7 +19,7 @@ use Rattle.sheet.specs.declared.item.Row.TheVariants.{Variable as variable_row, 
 use Rattle.sheet.specs.declared.item.Item.{Item}
 use Rattle.sheet.specs.declared.item.Item.TheVariants.{Arity as an_arity, Constructor as a_constructor, Variable as a_variable, Row as a_row}
 use Rattle.sheet.specs.Limits.{most_arities, most_name_arities, most_constructors, most_variables, most_name_variables, most_rows, most_parts}
-use Rattle.sheet.specs.Operands.{all, nonzero-past}
+use Rattle.sheet.specs.Operands.{all, nonzero_past}
 use Rattle.sheet.specs.Parts.{parts}
 use Rattle.sheet.specs.Sheets.{Sheet, item}
 
@@ -176,7 +176,7 @@ used (a_variable a) = 1
 used (a_row x) = used_by_row x
 
 abbrev pub padded : Entry → Item → Bool
-padded e i = nonzero-past (used i) e
+padded e i = nonzero_past (used i) e
 
 abbrev pub item_fault : Sheet → Entry → Item → Option Reason
 item_fault S e i =

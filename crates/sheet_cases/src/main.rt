@@ -2,6 +2,7 @@
 //!
 //! A case is a line `LABEL packed HEX` or `LABEL records HEX`, with `-` for no bytes; a record has six bytes.
 #![tactic(auto)]
+
 mod answer;
 mod case;
 mod fault;

@@ -1,7 +1,7 @@
 -- Trees with binding.
 --
 -- Tree         a name, a tick, a constructor over a tree, a tuple, a name before a tree
--- n FreeIn t  n is a free name of t
+-- n FreeIn t   n is a free name of t
 -- rename π t   t with π applied to every name, the bound ones too
 -- size t       how many parts t has
 -- t ≈ u        t and u are equal up to bound names

@@ -3,7 +3,7 @@ use Rattle.std.proofs.Common.{◌≡◌, ℕ, ◌+◌, ◌<◌, ◌≤◌, ◌�
 use Rattle.std.proofs.lemmas.Bool.{cases_eq, cases_lt}
 use Rattle.groups.specs.declared.Group.{Ghosts}
 use Rattle.union_find.specs.declared.link.Link.{Link}
-use Rattle.union_find.specs.Facts.{members, Chain, With, old, new}
+use Rattle.union_find.specs.Facts.{members, Chain, With, old}
 use Rattle.union_find.specs.Tables.{Linked, Root, Flat, Joined, Lifted, Left, Hung, entry_of}
 use Rattle.union_find.proofs.Algebra.{LawsOf, undo}
 use Rattle.union_find.proofs.Chains.{Sound, chain_append, chain_turn, chain_map, one, with_sound, with_new, with_map}

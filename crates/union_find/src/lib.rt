@@ -3,7 +3,7 @@
 
 ghost use Rattle.std.specs.Prelude.{◌≡◌, ◌<◌, ◌≤◌, List, [], length, MatchOption, OnOk, ◌≢◌};
 ghost use Rattle.union_find.specs.Facts.{members, Fact, Chain, Among};
-ghost use Rattle.union_find.specs.Tables.{Linked, Root, Way, Hung, Keeps, across as across_of, root_link as root-entry};
+ghost use Rattle.union_find.specs.Tables.{Linked, Root, Way, Hung, Keeps, across as across_of, root_link as root_entry};
 ghost use Rattle.union_find.specs.Calls.{Accepts, Refuses, Opened, Tells, Answers, After, facts_after, OneTelling, OneAnswer, refused as no_place};
 
 pub mod link;
@@ -17,7 +17,7 @@ pub const MEMBERS: usize = 256;
 
 /// The entry of a member of which nothing is said: a table to be opened may be made of it.
 pub fn root_link<G: Group>() -> Link<G>
-    ensures { result ≡ root-entry G.Group }
+    ensures { result ≡ root_entry G.Group }
 {
     Link {
         // No member is greater, so this says nothing.

@@ -10,7 +10,7 @@ use Rattle.std.proofs.lemmas.Bool.Decides.{Decides-eqb}
 pub returns-in-Some : goal.returns-in-Some
 returns-in-Some c accepted room =
     let bs = c.args.bytes.now in
-    let found = c.in-Some.ensures.finds.0 in
+    let found = c.in-Some.ensures.lookup.0 in
     let answer : Written (packed bs) (replicate 4096 0) (Ok c.in-Ok.n) c.write.new.buffer = c.in-Ok.ensures.answer in
     let all : c.in-Ok.n - 0 ≡ c.in-Ok.n = omega arith in
     let same : c.in-Some.written.now ≡ bs =

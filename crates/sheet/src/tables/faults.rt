@@ -1,6 +1,6 @@
 //! What may be wrong with the next entry.
 ghost use Rattle.std.specs.Prelude.{◌≡◌, nat_lt};
-ghost use Rattle.sheet.specs.Operands.{all, nonzero-past};
+ghost use Rattle.sheet.specs.Operands.{all, nonzero_past};
 ghost use Rattle.sheet.specs.Parts.{parts};
 ghost use Rattle.sheet.specs.Faults.{behind, crowded, present, well_sorted, used};
 ghost use Rattle.sheet.specs.Tables.{sheet_in};
@@ -16,7 +16,7 @@ mod loading;
 impl Entry {
     // Whether an operand past the first `n` is not 0.
     fn nonzero_past(self, n: usize) -> bool
-        ensures { result ≡ nonzero-past n self }
+        ensures { result ≡ nonzero_past n self }
     {
         for i in n..5 {
             if self.operand(i) != 0 {
