@@ -21,15 +21,21 @@ FACTS = {
     "image-of": "image_of",
     "command-of": "command_of",
     "root-entry": "root_entry",
+    "across-of": "across_of",
 }
 
-# The dash joins two names: of the function `pack_from` with `lt`, of `slice_get` with `take`.
+# The dash joins the names of two definitions, the outer call first.
 JOINED = {
-    "pack-from-lt": "pack_from-lt",
-    "pack-from-image": "pack_from-image",
+    "gather-digit": "digit-gather",
+    "left-out-set": "left_out-set",
     "nth-take": "slice_get-take",
+    "nth-take-getD": "slice_get-take_some",
     "nth-take-past": "slice_get-take_past",
-    "nth-take-getD": "slice_get-take_get_or",
+    "or-digit": "digit-bit_or",
+    "pack-from-image": "image-pack_from",
+    "pack-from-lt": "pack_from-lt",
+    "pack-image": "image-pack",
+    "xor-digit": "digit-bit_xor",
 }
 
 # Words: each dash becomes `_`.
@@ -50,25 +56,25 @@ hang-leave hang-lift hang-start how-many how-many-end how-many-here how-many-pus
 hung-link i-below identity-image identity-renaming inverse-compose inverse-identity inverse-image
 inverse-inverse inverse-is inverse-renaming is-data item-fault items-few j-below kept-none kept-sound
 kept-told lawful-compose lawful-identity lawful-inverse lawful-inverses lawful-pack lawful-seen lawful-well
-lay-all lay-end lay-more lay-on left-inverse left-out-set length-bytes length-form length-kept lifted-link
-linked-sound longer-arities longer-variables lowest-barren made-here made-later made-never maker-later makes-a
-mask-bit minus-ticks most-arities most-constructors most-name-arities most-name-variables most-parts most-rows
+lay-all lay-end lay-more lay-on left-inverse length-bytes length-form length-kept lifted-link linked-sound
+longer-arities longer-variables lowest-barren made-here made-later made-never maker-later makes-a mask-bit
+minus-ticks most-arities most-constructors most-name-arities most-name-variables most-parts most-rows
 most-variables m₀-lawful name-arities name-only name-variables names-names names-there new-said no-command
 no-entry no-facts no-ticks none-among none-some nonzero-past not-all not-before not-both not-here not-lawful
 not-refused not-twice not-whole nothing-told nth-kept nth-push old-said one-backwards one-refusal one-step
 one-telling ones-alone ones-or opens-past opens-then operand-count operand-list operand-parts or-again
-or-digits-lt or-one pack-equal pack-from pack-of-images packed-back packed-drop packed-few packed-form
-packed-past packed-spelt packed-whole parts-few parts-of passed-all passed-more past-test place-from
-present-arity present-row put-more read-is-form refuses-early refuses-not refuses-one renaming-laws rest-is
-right-inverse room-less root-a root-b root-i root-j root-link row-arity row-arity-at row-fits-now rows-have
-same-barren same-fault same-link same-only seen-from seen-has seen-lawful seen-lt settled-one sheet-in
-sheet-more sheet-of shifted-exchange solve-left solve-right sound-add spelt-of stays-root stop-cut stop-end
-stop-unknown swap-inverses swap-lawful swept-add swept-skip take-told takes-marked to-b told-one told-some
-told-suc top-i top-j tuple-now tuple-row tuple-tree turn-lt turned-image two-off untold-rest used-by-arity
-used-by-row value-at variable-row variables-fit way-chain way-i way-j way-lawful way-more way-move way-one
-way-root way-to well-sorted well-sorted-arity well-sorted-row when-seen when-unseen whole-cut whole-known
-wide-here wide-split width-most with-fair with-from with-instead with-map with-new with-old with-sound with-to
-x-lawful xor-back xor-digits-lt y-lawful
+or-digits-lt or-one pack-equal pack-from pack-of-images packed-back packed-few packed-form packed-past
+packed-spelt packed-whole parts-few parts-of passed-all passed-more past-test place-from present-arity
+present-row put-more read-is-form refuses-early refuses-not refuses-one renaming-laws rest-is right-inverse
+room-less root-a root-b root-i root-j root-link row-arity row-arity-at row-fits-now rows-have same-barren
+same-fault same-link same-only seen-from seen-has seen-lawful seen-lt settled-one sheet-in sheet-more sheet-of
+shifted-exchange solve-left solve-right sound-add spelt-of stays-root stop-cut stop-end stop-unknown
+swap-inverses swap-lawful swept-add swept-skip take-told takes-marked to-b told-one told-some told-suc top-i
+top-j tuple-now tuple-row tuple-tree turn-lt turned-image two-off untold-rest used-by-arity used-by-row
+value-at variable-row variables-fit way-chain way-i way-j way-lawful way-more way-move way-one way-root way-to
+well-sorted well-sorted-arity well-sorted-row when-seen when-unseen whole-cut whole-known wide-here wide-split
+width-most with-fair with-from with-instead with-map with-new with-old with-sound with-to x-lawful xor-back
+xor-digits-lt y-lawful
 """.split()
 
 NAMES = {**{word: word.replace("-", "_") for word in WORDS}, **FACTS, **JOINED}

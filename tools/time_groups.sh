@@ -1,14 +1,14 @@
 #!/bin/bash
-# Times operations of groups and of the union-find, proved (target/bin/time_groups) and written by hand without contracts
+# Times operations of groups and of the union-find, proved (crates/time_groups/out/time_groups) and written by hand without contracts
 # (tools/groups_bench.rs), and prints nanoseconds per operation and their ratio. Both make the same calls in the same order, and must
 # print the same results. Of each time, the least of three runs counts, less the time of as many runs of nothing; of relate, less
-# that of starting the program. Run `rt check time_groups` first.
+# that of starting the program. Run `rt run` in crates/time_groups first.
 set -euo pipefail
 cd "$(dirname "$0")/.."
 work=$(mktemp -d)
 trap 'rm -rf "$work"' EXIT
 rustc -C opt-level=3 --edition 2021 -o "$work/plain" tools/groups_bench.rs
-proved=target/bin/time_groups
+proved=crates/time_groups/out/time_groups
 
 # seconds PROGRAM OPERATION COUNT: the least of three runs; the result goes to $work/result.
 seconds() {

@@ -4,7 +4,7 @@ use lib.Bits.{bit_xor, xor_assoc, xor_self, xor_comm, xor_zero_l, xor_zero_r, xo
 use Rattle.std.proofs.lemmas.Bool.{cases_eq}
 use Rattle.std.proofs.lemmas.Bool.Decides.{nat_tests}
 use Rattle.groups.specs.Renamings.{names, image, Lawful, pack, swap, renaming, identity_renaming, exchange}
-use Rattle.groups.specs.Digits.{alone_here, alone_elsewhere, alone_lt, xor-digit, xor_digits_lt, shifted_alone}
+use Rattle.groups.specs.Digits.{alone_here, alone_elsewhere, alone_lt, digit-bit_xor, xor_digits_lt, shifted_alone}
 use Rattle.groups.specs.Packs.{pack_of_images}
 use Rattle.groups.specs.RenamingsLemmas.{Inverses, lawful_pack, identity_image, renaming_laws}
 
@@ -52,8 +52,8 @@ module _ (a b : ℕ) (p : a < names) (q : b < names) where
       let one = bit_xor identity_renaming.bits (turn * 16 ^ a) in
       pack_of_images (swap a b) _
       (xor_digits_lt 4 names one (turn * 16 ^ b) (xor_digits_lt 4 names identity_renaming.bits (turn * 16 ^ a) renaming_laws.lawful_identity.higher (room a p)) (room b q))
-      (λ i r. xor-digit 4 one (turn * 16 ^ b) i
-      ∙ ap (λ m. bit_xor m (image (turn * 16 ^ b) i)) (xor-digit 4 identity_renaming.bits (turn * 16 ^ a) i ∙ ap (λ m. bit_xor m (image (turn * 16 ^ a) i)) (identity_image i r))
+      (λ i r. digit-bit_xor 4 one (turn * 16 ^ b) i
+      ∙ ap (λ m. bit_xor m (image (turn * 16 ^ b) i)) (digit-bit_xor 4 identity_renaming.bits (turn * 16 ^ a) i ∙ ap (λ m. bit_xor m (image (turn * 16 ^ a) i)) (identity_image i r))
       ∙ turned_image i)
 
   -- the same with the shifts of the program

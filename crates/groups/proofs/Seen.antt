@@ -9,7 +9,7 @@ use lib.Count.{ones, ones_step, ones_cat, ones-ones}
 use Rattle.std.proofs.lemmas.Nat.{pow_pos}
 use Rattle.std.proofs.lemmas.Bool.{cases_eq, cases_lt, cases_order, eq-eqb, ne_eqb}
 use Rattle.groups.specs.Renamings.{names, image, Lawful}
-use Rattle.groups.specs.Digits.{digit, digit_lt, digit-zero, digit-suc, digit_past, same_digits, alone_here, alone_elsewhere, alone_lt, or-digit, or_digits_lt}
+use Rattle.groups.specs.Digits.{digit, digit_lt, digit-zero, digit-suc, digit_past, same_digits, alone_here, alone_elsewhere, alone_lt, digit-bit_or, or_digits_lt}
 use Rattle.groups.specs.Packs.{image-lt}
 use Rattle.groups.specs.Gathers.{gather, gather_more, gather-lt, gather_here, gather_elsewhere, gather_from}
 
@@ -51,7 +51,7 @@ or_again m a v p q e =
     let two : 0 < 2 = omega arith in
     let one : 1 < 2 = omega arith in
     same_digits 2 two m (bit_or a (1 * 2 ^ v)) a (or_digits_lt 1 m a (1 * 2 ^ v) p (alone_lt 2 two 1 v m one q)) p (λ u r.
-    or-digit 1 a (1 * 2 ^ v) u ∙ elim (cases_eq v u) [
+    digit-bit_or 1 a (1 * 2 ^ v) u ∙ elim (cases_eq v u) [
       | inl here ↦ subst (λ u. bit_or (bit a u) (bit (1 * 2 ^ v) u) ≡ bit a u) here
           (ap₂ bit_or e (alone_here 2 two 1 v one) ∙ sym e)
       | inr elsewhere ↦ ap (bit_or (bit a u)) (alone_elsewhere 2 two 1 v u one elsewhere) ∙ or_zero_r (bit a u)

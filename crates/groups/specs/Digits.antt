@@ -54,11 +54,11 @@ pow-pow w zero = pow-zero (2 ^ w) ∙ ap (λ m. 2 ^ m) (sym (mul-zero w))
 pow-pow w (suc i) = pow-suc (2 ^ w) i ∙ ap (λ m. m * 2 ^ w) (pow-pow w i) ∙ sym (pow-add 2 (w * i) w) ∙ ap (λ m. 2 ^ m) (sym (mul-suc w i))
 
 module _ (w : ℕ) where
-  pub or-digit : (a c i : ℕ) → digit (2 ^ w) (bit_or a c) i ≡ bit_or (digit (2 ^ w) a i) (digit (2 ^ w) c i)
-  or-digit a c i = rw (pow-pow w i) (ap (λ m. m % 2 ^ w) (or_shr a c (w * i)) ∙ or_mod (a / 2 ^ (w * i)) (c / 2 ^ (w * i)) w)
+  pub digit-bit_or : (a c i : ℕ) → digit (2 ^ w) (bit_or a c) i ≡ bit_or (digit (2 ^ w) a i) (digit (2 ^ w) c i)
+  digit-bit_or a c i = rw (pow-pow w i) (ap (λ m. m % 2 ^ w) (or_shr a c (w * i)) ∙ or_mod (a / 2 ^ (w * i)) (c / 2 ^ (w * i)) w)
 
-  pub xor-digit : (a c i : ℕ) → digit (2 ^ w) (bit_xor a c) i ≡ bit_xor (digit (2 ^ w) a i) (digit (2 ^ w) c i)
-  xor-digit a c i = rw (pow-pow w i) (ap (λ m. m % 2 ^ w) (xor_shr a c (w * i)) ∙ xor_mod (a / 2 ^ (w * i)) (c / 2 ^ (w * i)) w)
+  pub digit-bit_xor : (a c i : ℕ) → digit (2 ^ w) (bit_xor a c) i ≡ bit_xor (digit (2 ^ w) a i) (digit (2 ^ w) c i)
+  digit-bit_xor a c i = rw (pow-pow w i) (ap (λ m. m % 2 ^ w) (xor_shr a c (w * i)) ∙ xor_mod (a / 2 ^ (w * i)) (c / 2 ^ (w * i)) w)
 
   pub or_digits_lt : (k a c : ℕ) → a < (2 ^ w) ^ k → c < (2 ^ w) ^ k → bit_or a c < (2 ^ w) ^ k
   or_digits_lt k a c = rw (pow-pow w k) (or_lt (w * k) a c)

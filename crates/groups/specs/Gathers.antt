@@ -7,7 +7,7 @@ use Rattle.std.proofs.Math.Nat.{one-le-pow}
 use Rattle.std.specs.Int.Bits.{or_zero_l, or_zero_r}
 use Rattle.std.proofs.lemmas.Nat.{pow_pos}
 use Rattle.std.proofs.lemmas.Bool.{cases_eq}
-use Rattle.groups.specs.Digits.{digit, digit_past, alone_here, alone_elsewhere, alone_lt, or-digit, or_digits_lt, shifted_alone}
+use Rattle.groups.specs.Digits.{digit, digit_past, alone_here, alone_elsewhere, alone_lt, digit-bit_or, or_digits_lt, shifted_alone}
 
 abbrev pub gather : ℕ → (ℕ → ℕ) → (ℕ → ℕ) → ℕ → ℕ
 gather w d p zero = 0
@@ -31,12 +31,12 @@ module _ (w : ℕ) (d p : ℕ → ℕ) where
 
   pub gather_here : (k : ℕ) → d k < 2 ^ w → digit (2 ^ w) (gather w d p (suc k)) (p k) ≡ bit_or (digit (2 ^ w) (gather w d p k) (p k)) (d k)
   gather_here k s =
-      or-digit w (gather w d p k) (d k * (2 ^ w) ^ p k) (p k)
+      digit-bit_or w (gather w d p k) (d k * (2 ^ w) ^ p k) (p k)
       ∙ ap (bit_or (digit (2 ^ w) (gather w d p k) (p k))) (alone_here (2 ^ w) (pow_pos w) (d k) (p k) s)
 
   pub gather_elsewhere : (k v : ℕ) → d k < 2 ^ w → (p k ≢ v) → digit (2 ^ w) (gather w d p (suc k)) v ≡ digit (2 ^ w) (gather w d p k) v
   gather_elsewhere k v s ne =
-      or-digit w (gather w d p k) (d k * (2 ^ w) ^ p k) v
+      digit-bit_or w (gather w d p k) (d k * (2 ^ w) ^ p k) v
       ∙ ap (bit_or (digit (2 ^ w) (gather w d p k) v)) (alone_elsewhere (2 ^ w) (pow_pos w) (d k) (p k) v s ne)
       ∙ or_zero_r (digit (2 ^ w) (gather w d p k) v)
 
@@ -45,17 +45,17 @@ module _ (w : ℕ) (d p : ℕ → ℕ) where
   gather_free (suc k) v small h = gather_elsewhere k v (small k (omega arith)) (h k (omega arith)) ∙ gather_free k v (below k small) (below k h)
 
   -- where no two places are one, each digit stands at its place
-  pub gather-digit : (k : ℕ) → ((j : ℕ) → j < k → d j < 2 ^ w) → ((i j : ℕ) → i < k → j < k → p i ≡ p j → i ≡ j) →
+  pub digit-gather : (k : ℕ) → ((j : ℕ) → j < k → d j < 2 ^ w) → ((i j : ℕ) → i < k → j < k → p i ≡ p j → i ≡ j) →
       (j : ℕ) → j < k → digit (2 ^ w) (gather w d p k) (p j) ≡ d j
-  gather-digit zero small once j q = absurd (omega arith)
-  gather-digit (suc k) small once j q =
+  digit-gather zero small once j q = absurd (omega arith)
+  digit-gather (suc k) small once j q =
       elim (cases_eq k j) [
         | inl e ↦
             let free = gather_free k (p k) (below k small) (λ i r f. let same = once i k (omega arith) (omega arith) f in omega arith) in
             subst (λ m. digit (2 ^ w) (gather w d p (suc k)) (p m) ≡ d m) e (gather_here k (small k (omega arith)) ∙ ap (λ m. bit_or m (d k)) free ∙ or_zero_l (d k))
         | inr ne ↦
             gather_elsewhere k (p j) (small k (omega arith)) (λ f. ne (once k j (omega arith) q f))
-            ∙ gather-digit k (below k small) (λ i j r s. once i j (omega arith) (omega arith)) j (omega arith)
+            ∙ digit-gather k (below k small) (λ i j r s. once i j (omega arith) (omega arith)) j (omega arith)
       ]
 
   -- a digit that is not 0 stands at the place of some j

@@ -22,14 +22,14 @@ module _ (f : ℕ → ℕ) where
   pack_from-lt zero i h = omega arith
   pack_from-lt (suc k) i h = let here = first k i h in let more = pack_from-lt k (i + 1) (others k i h) in rw pow-suc (omega arith)
 
-  pack_from-image : (k i : ℕ) → ((j : ℕ) → j < k → f (i + j) < 16) → (j : ℕ) → j < k → image (pack_from f i k) j ≡ f (i + j)
-  pack_from-image zero i h j p = absurd (omega arith)
-  pack_from-image (suc k) i h zero p = digit-zero 16 (omega arith) (pack_from f i (suc k)) ∙ mod-mul-add (pack_from f (i + 1) k) 16 (f i) (first k i h) ∙ ap f (sym (add-zero i))
-  pack_from-image (suc k) i h (suc j) p =
+  image-pack_from : (k i : ℕ) → ((j : ℕ) → j < k → f (i + j) < 16) → (j : ℕ) → j < k → image (pack_from f i k) j ≡ f (i + j)
+  image-pack_from zero i h j p = absurd (omega arith)
+  image-pack_from (suc k) i h zero p = digit-zero 16 (omega arith) (pack_from f i (suc k)) ∙ mod-mul-add (pack_from f (i + 1) k) 16 (f i) (first k i h) ∙ ap f (sym (add-zero i))
+  image-pack_from (suc k) i h (suc j) p =
       let e : i + 1 + j ≡ i + suc j = omega arith in
       digit-suc 16 (omega arith) (pack_from f i (suc k)) j
       ∙ ap (λ m. image m j) (div-mul-add (pack_from f (i + 1) k) 16 (f i) (first k i h))
-      ∙ pack_from-image k (i + 1) (others k i h) j (omega arith) ∙ ap f e
+      ∙ image-pack_from k (i + 1) (others k i h) j (omega arith) ∙ ap f e
 
   module _ (small : (i : ℕ) → i < names → f i < 16) where
     from_zero : (i : ℕ) → i < names → f (0 + i) < 16
@@ -39,19 +39,19 @@ module _ (f : ℕ → ℕ) where
     unfolding pack
     pack-lt = pack_from-lt names 0 from_zero
 
-    pub pack-image : (i : ℕ) → i < names → image (pack f) i ≡ f i
+    pub image-pack : (i : ℕ) → i < names → image (pack f) i ≡ f i
     unfolding pack
-    pack-image i p = pack_from-image names 0 from_zero i p ∙ ap f (zero-add i)
+    image-pack i p = image-pack_from names 0 from_zero i p ∙ ap f (zero-add i)
 
   -- a number is the pack of its images
   pub pack_of_images : (n : ℕ) → n < 16 ^ names → ((i : ℕ) → i < names → image n i ≡ f i) → n ≡ pack f
   pack_of_images n p e =
       let small : (i : ℕ) → i < names → f i < 16 = λ i h. subst (λ m. m < 16) (e i h) (image-lt n i) in
-      same_digits 16 (omega arith) names n (pack f) p (pack-lt small) (λ i h. e i h ∙ sym (pack-image small i h))
+      same_digits 16 (omega arith) names n (pack f) p (pack-lt small) (λ i h. e i h ∙ sym (image-pack small i h))
 
 -- packs of equal images are equal
 pub pack_equal : (f g : ℕ → ℕ) → ((i : ℕ) → i < names → f i < 16) → ((i : ℕ) → i < names → f i ≡ g i) → pack f ≡ pack g
-pack_equal f g small e = pack_of_images g (pack f) (pack-lt f small) (λ i h. pack-image f small i h ∙ e i h)
+pack_equal f g small e = pack_of_images g (pack f) (pack-lt f small) (λ i h. image-pack f small i h ∙ e i h)
 
 -- an image v that occurs is found
 pub place_found : (n v k i j : ℕ) → i ≤ j → j < i + k → image n j ≡ v → (place_from n v i k < i + k) × (image n (place_from n v i k) ≡ v)

@@ -5,8 +5,8 @@ use Rattle.std.specs.Prelude.{◌≡◌, ℕ, ◌<◌, refl}
 use Rattle.std.proofs.Common.{sym, ap, ◌∙◌, subst, arith}
 use Rattle.groups.specs.Laws.{Laws}
 use Rattle.groups.specs.Renamings.{names, image, Lawful, pack, place, renaming, LawfulRenaming, identity_renaming, compose_renamings, inverse_renaming}
-use Rattle.groups.specs.Gathers.{gather, gather-lt, gather-digit}
-use Rattle.groups.specs.Packs.{image-lt, pack-lt, pack-image, pack_of_images, pack_equal, place_found}
+use Rattle.groups.specs.Gathers.{gather, gather-lt, digit-gather}
+use Rattle.groups.specs.Packs.{image-lt, pack-lt, image-pack, pack_of_images, pack_equal, place_found}
 
 pub record Inverses (f g : ℕ → ℕ) : Type 0 where
   pub there : (i : ℕ) → i < names → f i < names
@@ -18,7 +18,7 @@ pub record Inverses (f g : ℕ → ℕ) : Type 0 where
 pub lawful_pack : (f g : ℕ → ℕ) → Inverses f g → Lawful (pack f)
 lawful_pack f g b =
     let small : (i : ℕ) → i < names → f i < 16 = λ i p. let q = b.there i p in omega arith in
-    let is : (i : ℕ) → i < names → image (pack f) i ≡ f i = pack-image f small in
+    let is : (i : ℕ) → i < names → image (pack f) i ≡ f i = image-pack f small in
     record {
       higher = pack-lt f small;
       range = λ i p. subst (λ m. m < names) (sym (is i p)) (b.there i p);
@@ -54,10 +54,10 @@ composed f g f' g' b c = record {
 }
 
 pub identity_image : (i : ℕ) → i < names → image identity_renaming.bits i ≡ i
-identity_image i p = pack-image (λ i. i) (λ j q. omega arith) i p
+identity_image i p = image-pack (λ i. i) (λ j q. omega arith) i p
 
 pub inverse_image : (n : ℕ) → Lawful n → (v : ℕ) → v < names → image (pack (place n)) v ≡ place n v
-inverse_image n l v p = pack-image (place n) (λ j q. let r = (lawful_inverses n l).back_there j q in omega arith) v p
+inverse_image n l v p = image-pack (place n) (λ j q. let r = (lawful_inverses n l).back_there j q in omega arith) v p
 
 module _ (m n : ℕ) where
   abbrev pub both : ℕ → ℕ
@@ -67,7 +67,7 @@ module _ (m n : ℕ) where
   both_lt i p = image-lt m (image n i)
 
   both_image : (i : ℕ) → i < names → image (pack both) i ≡ both i
-  both_image = pack-image both both_lt
+  both_image = image-pack both both_lt
 
 pub renaming_laws : Laws LawfulRenaming identity_renaming compose_renamings inverse_renaming
 renaming_laws = record {
@@ -88,7 +88,7 @@ renaming_laws = record {
 pub gathered_compose : (m n : ℕ) → gather 4 (both m n) (λ i. i) names ≡ pack (both m n)
 gathered_compose m n =
     pack_of_images (both m n) _ (gather-lt 4 (both m n) (λ i. i) names names (both_lt m n) (λ i p. p))
-    (gather-digit 4 (both m n) (λ i. i) names (both_lt m n) (λ i j p q e. e))
+    (digit-gather 4 (both m n) (λ i. i) names (both_lt m n) (λ i j p q e. e))
 
 pub gathered_inverse : (n : ℕ) → Lawful n → gather 4 (λ i. i) (image n) names ≡ pack (place n)
 gathered_inverse n l =
@@ -96,4 +96,4 @@ gathered_inverse n l =
     let small : (i : ℕ) → i < names → i < 16 = λ i p. omega arith in
     pack_of_images (place n) _ (gather-lt 4 (λ i. i) (image n) names names small l.range) (λ v p.
     subst (λ u. image (gather 4 (λ i. i) (image n) names) u ≡ place n v) (b.undoes v p)
-    (gather-digit 4 (λ i. i) (image n) names small l.once (place n v) (b.back_there v p)))
+    (digit-gather 4 (λ i. i) (image n) names small l.once (place n v) (b.back_there v p)))

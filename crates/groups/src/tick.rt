@@ -1,6 +1,5 @@
 //! Ticks: delays on a clock of 32 bits, which starts again after its last tick.
-ghost use Rattle.groups.specs.Ticks.{LawfulTick, no_ticks, add_ticks, minus_ticks};
-ghost use Rattle.std.proofs.Common.{rules};
+ghost use Rattle.groups.specs.Ticks.{LawfulTick, no_ticks, add_ticks, minus_ticks, tick_laws};
 
 use crate::Group;
 
@@ -19,7 +18,7 @@ impl Group for Tick {
 
     ghost inverse = { minus_ticks };
 
-    ghost group = { Prim.search rules };
+    ghost group = { tick_laws };
 
     // Every number of 32 bits is a tick.
     fn is_lawful(self) -> bool {

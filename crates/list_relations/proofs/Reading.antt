@@ -6,7 +6,7 @@ use Rattle.std.proofs.Common.{◌≡◌, ℕ, ◌+◌, ◌-◌, ◌<◌, ◌≤�
 use Rattle.std.proofs.lemmas.List.{get_or_default}
 use Rattle.std.proofs.lemmas.Bool.{cases_eq}
 use Rattle.groups.specs.Renamings.{names, image}
-use Rattle.groups.specs.Gathers.{gather, gather-digit}
+use Rattle.groups.specs.Gathers.{gather, digit-gather}
 
 abbrev pub value_at : List ℕ → ℕ → ℕ
 value_at ds i = get_or ds i 0 - 48
@@ -24,7 +24,7 @@ one_more ds k c v digits is small e j p =
 pub images : (ds : List ℕ) (n : ℕ) → length ds ≡ names → n ≡ gather 4 (value_at ds) (λ i. i) names → Digits ds names → (k d : ℕ) → k < names → 48 + image n k ≡ get_or ds k d
 images ds n long is digits k d p =
     let small : (j : ℕ) → j < names → value_at ds j < 16 = λ j q. let r = (digits j q).1 in omega arith in
-    let same : image n k ≡ value_at ds k = ap (λ m. image m k) is ∙ gather-digit 4 (value_at ds) (λ i. i) names small (λ i j q r e. e) k p in
+    let same : image n k ≡ value_at ds k = ap (λ m. image m k) is ∙ digit-gather 4 (value_at ds) (λ i. i) names small (λ i j q r e. e) k p in
     let least = (digits k p).0 in
     let here : 48 + image n k ≡ get_or ds k 0 = omega arith in
     here ∙ get_or_default ds k 0 d (omega arith)

@@ -61,16 +61,16 @@ bytes_whole b xs is =
     ap (λ n. b ∷ take n (operand_list (entry_of b xs))) is ∙ ap (λ ys. b ∷ ys) (listed b xs most)
 
 -- the entries past k bytes are those of the bytes from there on
-packed_drop : (k : ℕ) (bs : List ℕ) → packed_past k bs ≡ packed (drop k bs)
+packed-drop : (k : ℕ) (bs : List ℕ) → packed_past k bs ≡ packed (drop k bs)
 unfolding packed
-packed_drop zero bs = refl
-packed_drop (suc k) [] = refl
-packed_drop (suc k) (b ∷ bs) = packed_drop k bs
+packed-drop zero bs = refl
+packed-drop (suc k) [] = refl
+packed-drop (suc k) (b ∷ bs) = packed-drop k bs
 
 pub packed_whole : (b n : ℕ) (bs : List ℕ) → whole (length bs) (command b) ≡ Some n →
     packed (b ∷ bs) ≡ entry_of b (take n bs) ∷ packed (drop n bs)
 unfolding packed
-packed_whole b n bs is = ap (command_then b bs (λ n. packed_past n bs)) is ∙ ap (λ es. entry_of b (take n bs) ∷ es) (packed_drop n bs)
+packed_whole b n bs is = ap (command_then b bs (λ n. packed_past n bs)) is ∙ ap (λ es. entry_of b (take n bs) ∷ es) (packed-drop n bs)
 
 pub packed_none : (b : ℕ) (bs : List ℕ) → whole (length bs) (command b) ≡ None → packed (b ∷ bs) ≡ []
 unfolding packed

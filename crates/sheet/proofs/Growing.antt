@@ -129,11 +129,11 @@ module _ (S : Sheet) (m : Marks) (closed : Closed S m) (few : length S.arities �
     every_tuple (bind n t) ps h = absurd h
 
 -- one arity more in the set
-left_out_set : (bs : List Bool) (i : ℕ) → i < length bs → get_or bs i false ≡ false → left_out (set bs i true) + 1 ≡ left_out bs
-left_out_set [] i below out = absurd (omega arith)
-left_out_set (false ∷ bs) zero below out = omega arith
-left_out_set (true ∷ bs) zero below out = absurd (false≢true (sym out))
-left_out_set (b ∷ bs) (suc i) below out = let h = left_out_set bs i (omega arith) out in omega arith
+left_out-set : (bs : List Bool) (i : ℕ) → i < length bs → get_or bs i false ≡ false → left_out (set bs i true) + 1 ≡ left_out bs
+left_out-set [] i below out = absurd (omega arith)
+left_out-set (false ∷ bs) zero below out = omega arith
+left_out-set (true ∷ bs) zero below out = absurd (false≢true (sym out))
+left_out-set (b ∷ bs) (suc i) below out = let h = left_out-set bs i (omega arith) out in omega arith
 
 -- how far a sweep has come: below a nothing is left to add, unless something was added
 pub record Swept (S : Sheet) (m : Marks) (a : ℕ) (grew : Bool) (n : Marks) : Type 0 where
@@ -155,7 +155,7 @@ module _ (S : Sheet) (m : Marks) where
       record {
         sound = λ s b h. sound_add (so_far.sound s) b h (cases_eq b a);
         fewer =
-            let one = left_out_set n.at a (omega (arith, n.wide)) out in
+            let one = left_out-set n.at a (omega (arith, n.wide)) out in
             let same = ap left_out added in
             let f = so_far.fewer in
             omega arith;

@@ -1,5 +1,5 @@
 //! Which arities have a tree.
-ghost use Rattle.std.specs.Prelude.{◌≡◌, ℕ, ◌<◌, true, false, set, slice_set};
+ghost use Rattle.std.specs.Prelude.{◌≡◌, ℕ, ◌<◌, true, false, slice_set};
 ghost use Rattle.sheet.specs.Limits.{most_arities};
 ghost use Rattle.sheet.specs.Parts.{parts};
 ghost use Rattle.sheet.specs.Growth.{marked, serves, grows, makes_one, all_marked, Sound, Closed, Sweeps};
