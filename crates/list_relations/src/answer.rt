@@ -2,7 +2,7 @@
 ghost use Rattle.std.specs.Prelude.{List, length};
 ghost use Rattle.union_find.specs.Facts.{Fact};
 ghost use Rattle.union_find.specs.Tables.{Keeps};
-ghost use Rattle.list_relations.specs.Replies.{Replies};
+ghost use Rattle.list_relations.specs.Replies.{Replies, Handles};
 
 use crate::line::Remark;
 use crate::wording::Wording;
@@ -27,7 +27,8 @@ pub fn answer_to<M: Group>(
     j: usize,
     remark: Remark<M>,
 ) -> Answer<M>
-    ensures { (fs : List (Fact M)) → Keeps M.Group fs table.old → Replies M.Group fs (length table.old) i j remark result (λ fs'. Keeps M.Group fs' table.new) }
+    ensures facts { (fs : List (Fact M)) → Keeps M.Group fs table.old → Replies M.Group fs (length table.old) i j remark result (λ fs'. Keeps M.Group fs' table.new) }
+    ensures table { Handles M.Group table.old table.new i j remark result }
 {
     match remark {
         Remark::Says(said) => Answer::Learned(said, relate(table, i, j, said)),
