@@ -1,30 +1,32 @@
 //! Why a call is declined: one type for every crate.
 #![tactic(auto)]
 
-ghost use Rattle.std.specs.Prelude.{◌≡◌};
+ghost use Rattle.std.specs.Prelude.{◌≡◌, Some};
 ghost use Rattle.refusals.specs.Numbers.{number};
 ghost use Rattle.refusals.specs.Words.{word};
 
-/// The reasons, in the order of their numbers.
+use std::fmt;
+
+/// The reasons, with their numbers.
 #[derive(Clone, Copy, PartialEq, Eq, Debug)]
 pub enum Reason {
-    Cut,
-    Unknown,
-    Tail,
-    Order,
-    Crowded,
-    Absent,
-    IllSorted,
-    Padding,
-    Barren,
-    Full,
-    NoRow,
-    Unfit,
-    Deep,
-    Crossed,
-    Short,
-    Stranger,
-    Unlawful,
+    Cut = 1,
+    Unknown = 2,
+    Tail = 3,
+    Order = 4,
+    Crowded = 5,
+    Absent = 6,
+    IllSorted = 7,
+    Padding = 8,
+    Barren = 9,
+    Full = 10,
+    NoRow = 11,
+    Unfit = 12,
+    Deep = 13,
+    Crossed = 14,
+    Short = 15,
+    Stranger = 16,
+    Unlawful = 17,
 }
 
 /// A reason with its place: a byte offset, an entry's position, an arity or a line, as the reason says.
@@ -39,25 +41,7 @@ impl Reason {
     pub fn number(self) -> u8
         ensures { result ≡ number self }
     {
-        match self {
-            Reason::Cut => 1,
-            Reason::Unknown => 2,
-            Reason::Tail => 3,
-            Reason::Order => 4,
-            Reason::Crowded => 5,
-            Reason::Absent => 6,
-            Reason::IllSorted => 7,
-            Reason::Padding => 8,
-            Reason::Barren => 9,
-            Reason::Full => 10,
-            Reason::NoRow => 11,
-            Reason::Unfit => 12,
-            Reason::Deep => 13,
-            Reason::Crossed => 14,
-            Reason::Short => 15,
-            Reason::Stranger => 16,
-            Reason::Unlawful => 17,
-        }
+        self as u8
     }
 
     /// The word that programs print.
@@ -83,5 +67,22 @@ impl Reason {
             Reason::Stranger => "stranger",
             Reason::Unlawful => "unlawful",
         }
+    }
+}
+
+impl fmt::Display for Reason {
+    ghost output = { λ r. Some (word r) };
+
+    fn fmt<W: fmt::Write>(&self, f: &mut fmt::Formatter<W>) -> fmt::Result {
+        f.write_str(self.word())
+    }
+}
+
+/// Where a reason says all, the place is 0.
+impl From<Reason> for Refusal {
+    ghost from_gives = { λ r f. f ≡ record { reason = r; place = 0 } };
+
+    fn from(reason: Reason) -> Refusal {
+        Refusal { reason, place: 0 }
     }
 }

@@ -1,5 +1,5 @@
 //! Making a bounded list.
-ghost use Rattle.std.specs.Prelude.{◌≡◌, [], ◌∷◌, ◌++◌, length, if◌then◌else◌, nat_lt};
+ghost use Rattle.std.specs.Prelude.{◌≡◌, ◌<◌, ◌≤◌, [], ◌∷◌, ◌++◌, length, MatchResult};
 ghost use Rattle.bounded.specs.Items.{items};
 
 use crate::list::Bounded;
@@ -15,17 +15,17 @@ impl<T: Copy, const N: usize> Bounded<T, N> {
         }
     }
 
-    /// One more element at the end; false, and the list as it was, where it is full.
-    pub fn push(&mut self, x: T) -> bool
-        ensures answer { result ≡ nat_lt (length (items self.old)) N }
-        ensures after { items self.new ≡ (if result then items self.old ++ x ∷ [] else items self.old) }
+    /// One more element at the end; where the list is full, it stays as it was and the element comes back.
+    pub fn push(&mut self, x: T) -> Result<(), T>
+        ensures { MatchResult result
+            (λ _. (length (items self.old) < N) × (items self.new ≡ items self.old ++ x ∷ []))
+            (λ y. (N ≤ length (items self.old)) × (y ≡ x) × (items self.new ≡ items self.old)) }
     {
-        if self.len < N {
-            self.slots[self.len] = x;
-            self.len += 1;
-            true
-        } else {
-            false
+        if self.len == N {
+            return Err(x);
         }
+        self.slots[self.len] = x;
+        self.len += 1;
+        Ok(())
     }
 }

@@ -6,6 +6,13 @@ ghost use Rattle.bounded.specs.Items.{items};
 use crate::list::Bounded;
 
 impl<T: Copy, const N: usize> Bounded<T, N> {
+    /// The elements, in their order.
+    pub fn as_slice(&self) -> &[T]
+        ensures { result.now ≡ items self.now }
+    {
+        &self.slots[..self.len]
+    }
+
     /// How many elements there are.
     pub fn len(&self) -> usize
         ensures { result ≡ length (items self.now) }
@@ -17,10 +24,6 @@ impl<T: Copy, const N: usize> Bounded<T, N> {
     pub fn get(&self, k: usize) -> Option<T>
         ensures { result ≡ slice_get (items self.now) k }
     {
-        if k < self.len {
-            Some(self.slots[k])
-        } else {
-            None
-        }
+        self.as_slice().get(k).copied()
     }
 }
