@@ -1,8 +1,8 @@
 -- The check, entry by entry.
 use Rattle.std.proofs.Common.{◌≡◌, ℕ, zero, suc, ◌+◌, ◌<◌, ◌≤◌, true, List, [], ◌∷◌, ◌++◌, length, take, drop, Some, None, Ok, Err, Option, Result, sym, refl, ap, ◌∙◌, subst, inl, inr, add-one, arith, below_more}
 use Rattle.std.specs.List.{slice_get}
-use Rattle.std.proofs.lemmas.List.{length-drop, take_all}
-use Rattle.std.proofs.lemmas.Option.{same_Some, slice_get_within}
+use Rattle.std.proofs.lemmas.List.{length-drop, take_all, take_more}
+use Rattle.std.proofs.lemmas.Option.{same_Some, slice_get_within, get_or_from_slice_get, none-some}
 use Rattle.std.proofs.lemmas.Bool.{cases_order, false≢true}
 use Rattle.refusals.specs.declared.Reason.{Reason}
 use Rattle.refusals.specs.declared.Reason.TheVariants.{Barren as BarrenReason}
@@ -21,15 +21,13 @@ extend_all_push : (S : Sheet) (es : List Entry) (e : Entry) → extend_all S (es
 extend_all_push S [] e = refl
 extend_all_push S (x ∷ es) e = extend_all_push (extend S x) es e
 
-take_told : (es : List Entry) (k : ℕ) (e : Entry) → slice_get es k ≡ Some e → take (suc k) es ≡ take k es ++ e ∷ []
-take_told [] k e is = let z : ◌≡◌ {A = ℕ} 0 1 = cc in absurd (omega arith)
-take_told (x ∷ es) zero e is = let same : x ≡ e = cc in ap (λ y. y ∷ []) same
-take_told (x ∷ es) (suc k) e is = ap (λ xs. x ∷ xs) (take_told es k e is)
-
 -- the sheet of one entry more
 pub sheet_more : (es : List Entry) (k : ℕ) (e : Entry) → slice_get es k ≡ Some e → sheet_of (take (k + 1) es) ≡ extend (sheet_of (take k es)) e
 unfolding sheet_of
-sheet_more es k e is = rw add-one (ap (extend_all blank) (take_told es k e is) ∙ extend_all_push blank (take k es) e)
+sheet_more es k e is =
+    let taken = take_more es k e (slice_get_within es k e is) in
+    let told = ap (λ x. take k es ++ x ∷ []) (get_or_from_slice_get es k e e is) in
+    ap (extend_all blank) (taken ∙ told) ∙ extend_all_push blank (take k es) e
 
 -- how far a check has come: the entries before k are faultless, S is their sheet, and the others are left
 pub record Passed (es : List Entry) (k : ℕ) (S : Sheet) (left : List Entry) : Type 0 where
@@ -100,16 +98,13 @@ module _ (es : List Entry) (S : Sheet) (all_passed : PassedAll es S) where
   pub lawful : LowestBarrenIn S None → Lawful es
   lawful fruitful = record { faultless = all_passed.faultless; fruitful = subst (λ Z. LowestBarrenIn Z None) all_passed.sheet fruitful }
 
-none_some : {X : Type 0} (x : X) (o : Option X) → o ≡ None → o ≡ Some x → ⊥
-none_some x o p q = let z : ◌≡◌ {A = ℕ} 0 1 = cc in omega arith
-
 -- a first fault is a fault
 faulty_entry : (es : List Entry) (f : Refusal) → FirstFault es f → Faultless es → ⊥
-faulty_entry es f a clean = none_some f.reason _ (clean f.place a.entry a.here) a.faulty
+faulty_entry es f a clean = none-some f.reason (sym (clean f.place a.entry a.here) ∙ a.faulty)
 
 -- two first faults stand at one place, and are one
 not_before : (es : List Entry) (f g : Refusal) → FirstFault es f → FirstFault es g → f.place < g.place → ⊥
-not_before es f g a b lt = none_some f.reason _ (b.before f.place a.entry lt a.here) a.faulty
+not_before es f g a b lt = none-some f.reason (sym (b.before f.place a.entry lt a.here) ∙ a.faulty)
 
 same_fault : (es : List Entry) (f g : Refusal) → FirstFault es f → FirstFault es g → f.place ≡ g.place → f ≡ g
 same_fault es f g a b e =

@@ -28,6 +28,8 @@ impl TryFrom<u8> for Command {
 
     ghost try_from_gives = { λ byte r. r ≡ ok_or (command byte) Unknown };
 
+    // Walks over bytes ask it at every command.
+    #[inline]
     fn try_from(byte: u8) -> Result<Command, Reason> {
         match byte {
             0x01 => Ok(Command::NameArity),

@@ -92,13 +92,12 @@ impl Tables {
         requires { crowded (sheet_in self.old) item ≡ false }
         ensures { sheet_in self.new ≡ declared (sheet_in self.old) item }
     {
-        // There is room, so each of these answers true.
-        let _ = match item {
-            Item::Arity(arity) => self.arities.push(arity).is_ok(),
-            Item::Constructor(c) => self.constructors.push(c).is_ok(),
-            Item::Variable(a) => self.variables.push(a).is_ok(),
-            Item::Row(row) => self.rows.push(row).is_ok(),
-        };
+        match item {
+            Item::Arity(arity) => self.arities.push(arity).unwrap(),
+            Item::Constructor(c) => self.constructors.push(c).unwrap(),
+            Item::Variable(a) => self.variables.push(a).unwrap(),
+            Item::Row(row) => self.rows.push(row).unwrap(),
+        }
     }
 
     // The entry joins the sheet, or is declined and the sheet is as it was.
