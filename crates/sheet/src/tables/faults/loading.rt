@@ -1,6 +1,5 @@
 //! A sheet, entry by entry.
 ghost use Rattle.std.specs.Prelude.{◌≡◌, false, MatchResult};
-ghost use Rattle.std.specs.Option.{ok_or};
 ghost use Rattle.sheet.specs.Sheets.{item as item_in, item_by, operand_parts, declare as declared};
 ghost use Rattle.sheet.specs.Faults.{item_fault, crowded};
 ghost use Rattle.sheet.specs.Tables.{sheet_in, Admits, Loaded};
@@ -60,7 +59,9 @@ impl Tables {
 
     // What the entry declares; refused where its byte is no command.
     fn item(&self, e: Entry) -> Result<Item, Reason>
-        ensures { result ≡ ok_or (item_in (sheet_in self.now) e) Reason.Unknown }
+        ensures { MatchResult result
+            (λ i. item_in (sheet_in self.now) e ≡ Some i)
+            (λ x. (item_in (sheet_in self.now) e ≡ None) × (x ≡ Reason.Unknown)) }
     {
         let command = Command::try_from(e.command)?;
         Ok(self.item_by(e, command))
