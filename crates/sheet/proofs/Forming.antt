@@ -1,8 +1,9 @@
 -- A lawful sheet is well formed: entry by entry.
 use Rattle.std.proofs.Common.{◌≡◌, ℕ, zero, suc, ◌+◌, ◌<◌, ◌≤◌, Bool, true, false, cond, not, ◌&&◌, ◌||◌, eqb, ltb, leb, ◌⊎◌, List, [], ◌∷◌, ◌++◌, length, take, Some, None, Option, sym, refl, ap, ◌∙◌, subst, inl, inr, add-one, arith}
-use Rattle.std.specs.List.{slice_get}
+use Rattle.std.specs.List.{slice_get, count_by, list_all}
 use Rattle.std.specs.Option.{option_map}
 use Rattle.std.proofs.lemmas.List.{length_push, length-take, take_all}
+use Rattle.std.proofs.lemmas.List.Sums.{sum_by_push}
 use Rattle.std.proofs.lemmas.Bool.{and_parts, or_parts, ltb-true, ltb-false, leb-false, eqb-true, false≢true, not-false}
 use Rattle.sheet.specs.declared.entry.Entry.{Entry}
 use Rattle.sheet.specs.declared.command.Command.{Command}
@@ -18,13 +19,12 @@ use Rattle.sheet.specs.declared.item.Item.TheVariants.{Arity as an_arity, Constr
 use Rattle.refusals.specs.declared.Reason.TheVariants.{Order, Crowded, Absent, IllSorted, Padding}
 use Rattle.sheet.specs.Limits.{most_arities, most_name_arities, most_constructors, most_variables, most_name_variables, most_rows, most_parts}
 use Rattle.sheet.specs.Commands.{command}
-use Rattle.sheet.specs.Operands.{all}
 use Rattle.sheet.specs.Parts.{parts}
 use Rattle.sheet.specs.Sheets.{Sheet, blank, item, item_of, item_by, width_of, declare, declare_some, extend, sheet_of}
-use Rattle.sheet.specs.Faults.{some, how_many, is_name, holds, names_names, has, behind, crowded, present, well_sorted, padded, item_fault, fault_of, fault, arity_of, arity_of_some, row_arity, row_has, rows_have, fits_tuple, fits_binding}
+use Rattle.sheet.specs.Faults.{some, is_name, holds, names_names, has, behind, crowded, present, well_sorted, padded, item_fault, fault_of, fault, arity_of, arity_of_some, row_arity, row_has, rows_have, fits_tuple, fits_binding}
 use Rattle.sheet.specs.Checks.{Faultless}
 use Rattle.sheet.specs.WellFormed.{Every, Each, WithinLimits, ArityFits, ConstructorFits, VariableFits, RowHas, RowFits, WellFormed, LawfulIsWellFormed}
-use Rattle.sheet.proofs.Walks.{told_below}
+use Rattle.std.proofs.lemmas.Option.{slice_get_within, slice_get_cases, none-some}
 use Rattle.sheet.proofs.Growing.{data_only}
 use Rattle.sheet.proofs.Checking.{sheet_more}
 
@@ -42,15 +42,9 @@ module _ {X : Type 0} where
   nth_push (z ∷ xs) y (suc k) x is =
       elim (nth_push xs y k x is) [ inl h ↦ inl h | inr h ↦ inr (ap suc h.0, h.1) ]
 
-  how_many_push : (p : X → Bool) (xs : List X) (y : X) → how_many p (xs ++ y ∷ []) ≡ how_many p xs + cond (p y) 1 0
-  how_many_push p [] y = omega arith
-  how_many_push p (x ∷ xs) y = let h = how_many_push p xs y in omega arith
-
   -- k names an element
   there : (xs : List X) (k : ℕ) → k < length xs → (x : X) × (slice_get xs k ≡ Some x)
-  there [] k below = absurd (omega arith)
-  there (x ∷ xs) zero below = (x, refl)
-  there (x ∷ xs) (suc k) below = there xs k (omega arith)
+  there xs k below = elim (slice_get_cases xs k).1 [ inl h ↦ (h.0, h.2) | inr h ↦ absurd (omega arith) ]
 
 -- what the tests tell
 name_only : (o : Option Arity) → holds is_name o ≡ true → o ≡ Some Name
@@ -65,10 +59,10 @@ same_only : (o : Option ℕ) (a : ℕ) → holds (eqb a) o ≡ true → o ≡ So
 same_only None a h = absurd (false≢true h)
 same_only (Some b) a h = ap (λ x. Some x) (sym (eqb-true a b h))
 
-every_below : {X : Type 0} (xs : List X) (ps : List ℕ) → all (has xs) ps ≡ true → Every (λ p. p < length xs) ps
+every_below : {X : Type 0} (xs : List X) (ps : List ℕ) → list_all (has xs) ps ≡ true → Every (λ p. p < length xs) ps
 every_below xs [] h = tt
 every_below xs (p ∷ ps) h =
-    let h' = and_parts (has xs p) (all (has xs) ps) h in
+    let h' = and_parts (has xs p) (list_all (has xs) ps) h in
     (ltb-true p (length xs) h'.0, every_below xs ps h'.1)
 
 -- T has all that S has, under the same numbers
@@ -91,10 +85,10 @@ declare_extends S (a_row x) =
 -- what fits a sheet fits one that has more
 module _ (S T : Sheet) (more : Extends S T) where
   longer_arities : (k : ℕ) → k < length S.arities → k < length T.arities
-  longer_arities k below = let (x, is) = there S.arities k below in told_below T.arities k x (more.arities k x is)
+  longer_arities k below = let (x, is) = there S.arities k below in slice_get_within T.arities k x (more.arities k x is)
 
   longer_variables : (k : ℕ) → k < length S.variables → k < length T.variables
-  longer_variables k below = let (x, is) = there S.variables k below in told_below T.variables k x (more.variables k x is)
+  longer_variables k below = let (x, is) = there S.variables k below in slice_get_within T.variables k x (more.variables k x is)
 
   arity_kept : (a : ℕ) (x : Arity) → ArityFits S a x → ArityFits T a x
   arity_kept a Name h = h
@@ -192,19 +186,19 @@ module _ (S : Sheet) where
   row_now : (a q : ℕ) → has S.rows q ≡ true → row_has S a q ≡ true → RowHas S (length S.rows) a q
   row_now a q p h = (ltb-true q (length S.rows) p, same_only (row_arity S q) a h)
 
-  each_now : (as' qs : List ℕ) → length as' ≡ length qs → all (has S.rows) qs ≡ true → rows_have S as' qs ≡ true
+  each_now : (as' qs : List ℕ) → length as' ≡ length qs → list_all (has S.rows) qs ≡ true → rows_have S as' qs ≡ true
       → Each (RowHas S (length S.rows)) as' qs
   each_now [] [] e p h = tt
   each_now [] (q ∷ qs) e p h = absurd (omega arith)
   each_now (a ∷ as') [] e p h = absurd (omega arith)
   each_now (a ∷ as') (q ∷ qs) e p h =
-      let p' = and_parts (has S.rows q) (all (has S.rows) qs) p in
+      let p' = and_parts (has S.rows q) (list_all (has S.rows) qs) p in
       let h' = and_parts (row_has S a q) (rows_have S as' qs) h in
       (row_now a q p'.0 h'.0, each_now as' qs (omega arith) p'.1 h'.1)
 
   same_length : (ps qs : Parts) → ps.len ≡ qs.len → length (parts ps) ≡ length (parts qs)
   same_length ps qs e =
-      omega (arith, length-take ps.len (ps.a ∷ ps.b ∷ ps.c ∷ ps.d ∷ []), length-take qs.len (qs.a ∷ qs.b ∷ qs.c ∷ qs.d ∷ []))
+      omega (arith, ps.four, qs.four, length-take ps.len ps.numbers, length-take qs.len qs.numbers)
 
   arity_now : (x : Arity) → crowded S (an_arity x) ≡ false → present S (an_arity x) ≡ true → well_sorted S (an_arity x) ≡ true → ArityFits S (length S.arities) x
   arity_now Name room p h = tt
@@ -222,7 +216,7 @@ module _ (S : Sheet) where
   apply_now None c q at p h = absurd (false≢true h)
   apply_now (Some x) c q at p h = (x, at, row_now x.takes q p h)
 
-  tuple_now : (o : Option Arity) (a : ℕ) (qs : Parts) → slice_get S.arities a ≡ o → all (has S.rows) (parts qs) ≡ true → holds (fits_tuple S (parts qs)) o ≡ true
+  tuple_now : (o : Option Arity) (a : ℕ) (qs : Parts) → slice_get S.arities a ≡ o → list_all (has S.rows) (parts qs) ≡ true → holds (fits_tuple S (parts qs)) o ≡ true
       → qs.len ≡ width_of o → RowFits S (length S.rows) (tuple_row a qs)
   tuple_now None a qs at p h e = absurd (false≢true h)
   tuple_now (Some Name) a qs at p h e = absurd (false≢true h)
@@ -246,7 +240,7 @@ module _ (S : Sheet) where
   row_fits_now (variable_row v) p h m = ltb-true v (length S.variables) p
   row_fits_now (apply_row c q) p h m = apply_now (slice_get S.constructors c) c q refl (and_parts (has S.constructors c) (has S.rows q) p).1 h
   row_fits_now (tuple_row a qs) p h m =
-      tuple_now (slice_get S.arities a) a qs refl (and_parts (has S.arities a) (all (has S.rows) (parts qs)) p).1 h m
+      tuple_now (slice_get S.arities a) a qs refl (and_parts (has S.arities a) (list_all (has S.rows) (parts qs)) p).1 h m
   row_fits_now (bind_row a v q) p h m =
       let p' = and_parts (has S.arities a) (has S.variables v && has S.rows q) p in
       bind_now (slice_get S.arities a) a v q refl (and_parts (has S.variables v) (has S.rows q) p'.1).1 h
@@ -269,32 +263,39 @@ none_yet [] h = refl
 none_yet (x ∷ xs) h = absurd (false≢true (sym h))
 
 module _ (S : Sheet) (so_far : WellFormed S) where
+  -- where the arities and variables stay
+  others_within : (cs : List Constructor) (rs : List Row) → length cs ≤ most_constructors → length rs ≤ most_rows
+      → WithinLimits (record { arities = S.arities; constructors = cs; variables = S.variables; rows = rs })
+  others_within cs rs few_cs few_rs =
+      let l = so_far.limits in
+      record {
+        arities = l.arities;
+        name_arities = l.name_arities;
+        constructors = few_cs;
+        variables = l.variables;
+        name_variables = l.name_variables;
+        rows = few_rs;
+      }
+
   limits : (e : Entry) (i : Item) → Clean S e i → WithinLimits (declare S i)
   limits e (an_arity x) c =
       let room = or_parts (leb most_arities (length S.arities)) _ c.has_room in
-      let names = (or_parts (is_name x && leb most_name_arities (how_many is_name S.arities)) _ room.1).0 in
+      let names = (or_parts (is_name x && leb most_name_arities (count_by is_name S.arities)) _ room.1).0 in
       let less = leb-false most_arities (length S.arities) room.0 in
       let later = (or_parts (some S.constructors) (some S.variables || some S.rows) c.in_order).1 in
       let none = none_yet S.variables (or_parts (some S.variables) (some S.rows) later).0 in
       let T = declare S (an_arity x) in
       record {
         arities = omega (arith, length_push S.arities x);
-        name_arities = subst (λ n. n ≤ most_name_arities) (sym (how_many_push is_name S.arities x)) (limited (is_name x) _ most_name_arities names so_far.limits.name_arities);
+        name_arities = subst (λ n. n ≤ most_name_arities) (sym (sum_by_push (λ y. cond (is_name y) 1 0) S.arities x)) (limited (is_name x) _ most_name_arities names so_far.limits.name_arities);
         constructors = so_far.limits.constructors;
         variables = so_far.limits.variables;
-        name_variables = subst (λ vs. how_many (names_names T) vs ≤ most_name_variables) (sym none) (omega arith);
+        name_variables = subst (λ vs. count_by (names_names T) vs ≤ most_name_variables) (sym none) (omega arith);
         rows = so_far.limits.rows;
       }
   limits e (a_constructor x) c =
       let less = leb-false most_constructors (length S.constructors) c.has_room in
-      record {
-        arities = so_far.limits.arities;
-        name_arities = so_far.limits.name_arities;
-        constructors = omega (arith, length_push S.constructors x);
-        variables = so_far.limits.variables;
-        name_variables = so_far.limits.name_variables;
-        rows = so_far.limits.rows;
-      }
+      others_within (S.constructors ++ x ∷ []) S.rows (omega (arith, length_push S.constructors x)) so_far.limits.rows
   limits e (a_variable a) c =
       let room = or_parts (leb most_variables (length S.variables)) _ c.has_room in
       let less = leb-false most_variables (length S.variables) room.0 in
@@ -304,20 +305,13 @@ module _ (S : Sheet) (so_far : WellFormed S) where
         constructors = so_far.limits.constructors;
         variables = omega (arith, length_push S.variables a);
         name_variables =
-            subst (λ n. n ≤ most_name_variables) (sym (how_many_push (names_names S) S.variables a))
+            subst (λ n. n ≤ most_name_variables) (sym (sum_by_push (λ y. cond (names_names S y) 1 0) S.variables a))
             (limited (names_names S a) _ most_name_variables room.1 so_far.limits.name_variables);
         rows = so_far.limits.rows;
       }
   limits e (a_row x) c =
       let less = leb-false most_rows (length S.rows) c.has_room in
-      record {
-        arities = so_far.limits.arities;
-        name_arities = so_far.limits.name_arities;
-        constructors = so_far.limits.constructors;
-        variables = so_far.limits.variables;
-        name_variables = so_far.limits.name_variables;
-        rows = omega (arith, length_push S.rows x);
-      }
+      others_within S.constructors (S.rows ++ x ∷ []) so_far.limits.constructors (omega (arith, length_push S.rows x))
 
   arities_fit : (i : Item) → ItemFits S i → (a : ℕ) (y : Arity) → slice_get (declare S i).arities a ≡ Some y → ArityFits (declare S i) a y
   arities_fit (an_arity x) fits a y is =
@@ -370,17 +364,14 @@ extended_well : (S : Sheet) (e : Entry) → WellFormed S → fault S e ≡ None 
 unfolding fault item
 extended_well S e so_far none = extended_by S e (command e.command) so_far none
 
-nothing_told : {X : Type 0} (x : X) → ◌≡◌ {A = Option X} None (Some x) → ⊥
-nothing_told x is = let z : ◌≡◌ {A = ℕ} 0 1 = cc in omega arith
-
 blank_well : WellFormed blank
 blank_well =
     record {
       limits = record { arities = omega arith; name_arities = omega arith; constructors = omega arith; variables = omega arith; name_variables = omega arith; rows = omega arith };
-      arities = λ a x is. absurd (nothing_told x is);
-      constructors = λ c x is. absurd (nothing_told x is);
-      variables = λ v a is. absurd (nothing_told a is);
-      rows = λ r x is. absurd (nothing_told x is);
+      arities = λ a x is. absurd (none-some x is);
+      constructors = λ c x is. absurd (none-some x is);
+      variables = λ v a is. absurd (none-some a is);
+      rows = λ r x is. absurd (none-some x is);
     }
 
 front_well : (es : List Entry) → Faultless es → (k : ℕ) → k ≤ length es → WellFormed (sheet_of (take k es))
