@@ -38,40 +38,12 @@ taken es k e is =
 pub room_less : (m n l : ℕ) → n ≤ l → ltb m (l - n) ≡ ltb (n + m) l
 room_less m n l fits = grind (arith, nat_tests)
 
-pub byte_at : (e : Entry) (i : ℕ) → 0 < i → i < length (bytes_of e) → get_or (operand_list e) (i - 1) 0 ≡ get_or (bytes_of e) i 0
+-- the bytes of an entry are the first of these six
+pub first_bytes : (e : Entry) (n : ℕ) → n ≡ length (bytes_of e) → take n (e.command ∷ operand_list e) ≡ bytes_of e
 unfolding bytes_of
-byte_at e zero past below = absurd (omega arith)
-byte_at e (suc i) past below =
-    let is : suc i - 1 ≡ i = omega arith in
-    let less : i < operand_count (command e.command) = omega (arith, length_bytes e) in
-    ap (λ j. get_or (operand_list e) j 0) is ∙ sym (get_or-take (operand_count (command e.command)) (operand_list e) i 0 less)
-
--- the command byte is laid first
-pub put_first : (e : Entry) (d : List ℕ) (at : ℕ) → at < length d → set d at e.command ≡ paste (set d at e.command) at (bytes_of e) 1
-unfolding bytes_of
-put_first e d at below =
-    let x = set d at e.command in
-    let long = length-set d at e.command in
-    let at_zero : at + 0 ≡ at = omega arith in
-    sym (set-set d at e.command e.command)
-    ∙ ap (λ l. set l at e.command) (paste_none x at (bytes_of e))
-    ∙ ap (λ n. set (paste x at (bytes_of e) 0) n e.command) (sym at_zero)
-    ∙ paste_more x at (bytes_of e) 0 0 (omega arith) (omega (arith, length_bytes e))
-
-pub put_more : (e : Entry) (d buffer : List ℕ) (at i b : ℕ) → buffer ≡ paste d at (bytes_of e) i → b ≡ get_or (operand_list e) (i - 1) 0 →
-    0 < i → i < length (bytes_of e) → at + i < length d → set buffer (at + i) b ≡ paste d at (bytes_of e) (i + 1)
-put_more e d buffer at i b so_far is past below fits =
-    ap (λ l. set l (at + i) b) so_far
-    ∙ ap (set (paste d at (bytes_of e) i) (at + i)) (is ∙ byte_at e i past below)
-    ∙ paste_more d at (bytes_of e) i 0 fits below
-
-pub put_all : (e : Entry) (d : List ℕ) (at i : ℕ) → i ≡ length (bytes_of e) →
-    paste (set d at e.command) at (bytes_of e) i ≡ take at d ++ bytes_of e ++ drop (at + length (bytes_of e)) d
-put_all e d at i is =
-    let front = take-set d at e.command in
-    let all = take_all i (bytes_of e) (omega arith) in
-    let past = drop-set-lt (at + i) d at e.command (omega (arith, length_bytes e)) in
-    cc
+first_bytes e n is =
+    let long : n ≡ suc (operand_count (command e.command)) = omega (arith, length_bytes e) in
+    ap (λ m. take m (e.command ∷ operand_list e)) long
 
 -- one more after those that are laid
 lay_on : (before done bytes buffer : List ℕ) (at w : ℕ) → at ≡ length done → buffer ≡ done ++ drop at before →

@@ -12,13 +12,11 @@ use sheet::entry::Entry;
 use sheet::source::SheetSource;
 
 // How many bytes the entry takes.
+#[tactic(auto, using(crate::proofs::Packing::length_bytes))]
 fn width(entry: Entry) -> usize
     ensures { result ≡ length (bytes_of entry) }
 {
-    match Command::of(entry.command) {
-        Some(command) => 1 + command.operands(),
-        None => 1,
-    }
+    1 + Command::of(entry.command).map_or(0, Command::operands)
 }
 
 // Whether the entries take fewer than `room` bytes.
@@ -47,11 +45,9 @@ fn put(buffer: &mut [u8], at: usize, e: Entry) -> usize
     ensures end { result ≡ at + length (bytes_of e) }
     ensures after { buffer.new ≡ take at buffer.old ++ bytes_of e ++ drop (at + length (bytes_of e)) buffer.old }
 {
+    let bytes = [e.command, e.a, e.b, e.c, e.d, e.e];
     let n = width(e);
-    buffer[at] = e.command;
-    for i in 1..n {
-        buffer[at + i] = e.operand(i - 1);
-    }
+    buffer[at..at + n].copy_from_slice(&bytes[..n]);
     at + n
 }
 
@@ -62,10 +58,7 @@ pub fn write<S: SheetSource>(source: &S, buffer: &mut [u8]) -> Result<usize, Ref
 {
     check(source)?;
     if !fits(source, buffer.len()) {
-        return Err(Refusal {
-            reason: Reason::Short,
-            place: 0,
-        });
+        return Err(Reason::Short.into());
     }
     let mut at = 0;
     for k in 0..source.count() {

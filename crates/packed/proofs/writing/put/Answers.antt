@@ -1,21 +1,19 @@
-use Rattle.std.proofs.Common.{◌∙◌, arith, length-set}
-use Rattle.packed.proofs.Packing.{length_bytes}
-use Rattle.packed.proofs.Laying.{put_first, put_more, put_all}
+use Rattle.std.proofs.Common.{rules, arith, ◌∙◌}
+use Rattle.std.proofs.lemmas.Slice.{overwrites}
+use Rattle.std.proofs.lemmas.List.{length-take-le}
+use Rattle.sheet.specs.Commands.{command}
+use Rattle.packed.proofs.Packing.{length_bytes, width_most}
+use Rattle.packed.proofs.Laying.{first_bytes}
 use Rattle.packed.proofs.writing.put.Goals as goal
 
-pub bounds-buffer-at : goal.bounds-buffer-at
-bounds-buffer-at c = omega (arith, length_bytes c.args.e)
+pub slice_bounds-bytes-end : goal.slice_bounds-bytes-end
+slice_bounds-bytes-end c = omega (arith, length_bytes c.args.e, width_most (command c.args.e.command))
 
-pub loop-i-init : goal.loop-i-init
-loop-i-init c = put_first c.args.e c.args.buffer.now c.args.at (omega (arith, length_bytes c.args.e))
+pub slice_bounds-copy_from_slice-end-2 : goal.slice_bounds-copy_from_slice-end-2
+slice_bounds-copy_from_slice-end-2 c = omega (arith, length_bytes c.args.e, width_most (command c.args.e.command))
 
-pub loop-i-preserved : goal.loop-i-preserved
-loop-i-preserved c =
-    put_more c.args.e _ c.loop-i.buffer c.args.at c.loop-i.i c.operand.result c.loop-i.invariant c.operand.ensures
-    (omega arith) (omega arith) (omega (arith, length-set c.args.buffer.now c.args.at c.args.e.command))
+pub copy_from_slice-requires : goal.copy_from_slice-requires
+copy_from_slice-requires c = rw (first_bytes c.args.e c.width-n.result c.width-n.ensures) (search rules)
 
-pub returns : goal.returns
-returns c = record {
-  end = omega arith;
-  after = c.loop-i.invariant ∙ put_all c.args.e c.args.buffer.now c.args.at c.loop-i.i (omega (arith, length_bytes c.args.e));
-}
+pub returns-clause-after : goal.returns-clause-after
+returns-clause-after c = ?
