@@ -1,8 +1,9 @@
 -- The check, entry by entry.
-use Rattle.std.proofs.Common.{◌≡◌, ℕ, zero, suc, ◌+◌, ◌<◌, ◌≤◌, List, [], ◌∷◌, ◌++◌, length, take, Some, None, Ok, Err, Option, sym, refl, ap, ◌∙◌, subst, inl, inr, add-one, arith, below_more}
+use Rattle.std.proofs.Common.{◌≡◌, ℕ, zero, suc, ◌+◌, ◌<◌, ◌≤◌, true, List, [], ◌∷◌, ◌++◌, length, take, drop, Some, None, Ok, Err, Option, Result, sym, refl, ap, ◌∙◌, subst, inl, inr, add-one, arith, below_more}
 use Rattle.std.specs.List.{slice_get}
-use Rattle.std.proofs.lemmas.List.{take_all}
-use Rattle.std.proofs.lemmas.Bool.{cases_order}
+use Rattle.std.proofs.lemmas.List.{length-drop, take_all}
+use Rattle.std.proofs.lemmas.Option.{same_Some, slice_get_within}
+use Rattle.std.proofs.lemmas.Bool.{cases_order, false≢true}
 use Rattle.refusals.specs.declared.Reason.{Reason}
 use Rattle.refusals.specs.declared.Reason.TheVariants.{Barren as BarrenReason}
 use Rattle.refusals.specs.declared.Refusal.{Refusal}
@@ -10,8 +11,8 @@ use Rattle.sheet.specs.declared.entry.Entry.{Entry}
 use Rattle.sheet.specs.Sheets.{Sheet, blank, extend, extend_all, sheet_of}
 use Rattle.sheet.specs.Faults.{fault}
 use Rattle.sheet.specs.Checks.{Faultless, FaultlessBelow, FirstFault, Lawful, LowestBarren, Declined, OneAnswer}
-use Rattle.sheet.specs.Tables.{LowestBarrenIn}
-use Rattle.sheet.proofs.Walks.{told_below}
+use Rattle.sheet.specs.Tables.{LowestBarrenIn, Admits}
+use Rattle.std.specs.Result.{is_ok, MatchResult, IsErrAnd}
 
 extend_all_push : (S : Sheet) (es : List Entry) (e : Entry) → extend_all S (es ++ e ∷ []) ≡ extend (extend_all S es) e
 extend_all_push S [] e = refl
@@ -27,43 +28,63 @@ pub sheet_more : (es : List Entry) (k : ℕ) (e : Entry) → slice_get es k ≡ 
 unfolding sheet_of
 sheet_more es k e is = rw add-one (ap (extend_all blank) (take_told es k e is) ∙ extend_all_push blank (take k es) e)
 
--- how far a check has come: the entries before k are faultless, and S is their sheet
-pub record Passed (es : List Entry) (k : ℕ) (S : Sheet) : Type 0 where
+-- how far a check has come: the entries before k are faultless, S is their sheet, and the others are left
+pub record Passed (es : List Entry) (k : ℕ) (S : Sheet) (left : List Entry) : Type 0 where
   pub faultless : FaultlessBelow k es
   pub sheet : S ≡ sheet_of (take k es)
+  pub rest : drop k es ≡ left
 
-pub passed_none : (es : List Entry) → Passed es 0 blank
+pub passed_none : (es : List Entry) (k : ℕ) (S : Sheet) (left : List Entry) → k ≡ 0 → S ≡ blank → left ≡ es → Passed es k S left
 unfolding sheet_of
-passed_none es = record { faultless = λ j e below is. absurd (omega arith); sheet = refl }
+passed_none es k S left none empty all_left =
+    record {
+      faultless = λ j e below is. absurd (omega arith);
+      sheet = empty ∙ ap (λ n. sheet_of (take n es)) (sym none);
+      rest = ap (λ n. drop n es) none ∙ sym all_left;
+    }
 
-module _ (es : List Entry) (k : ℕ) (e : Entry) (is : slice_get es k ≡ Some e) where
+-- the first that is left stands next
+next_of : (es : List Entry) (k : ℕ) (e : Entry) (left : List Entry) → drop k es ≡ e ∷ left → (slice_get es k ≡ Some e) × (drop (suc k) es ≡ left)
+next_of [] zero e left is = let z : ◌≡◌ {A = ℕ} 0 1 = cc in absurd (omega arith)
+next_of [] (suc k) e left is = let z : ◌≡◌ {A = ℕ} 0 1 = cc in absurd (omega arith)
+next_of (x ∷ es) zero e left is = (cc, cc)
+next_of (x ∷ es) (suc k) e left is = next_of es k e left is
+
+module _ (es : List Entry) (k : ℕ) (S : Sheet) (now : List Entry) (so_far : Passed es k S now) (e : Entry) (left : List Entry) (is : now ≡ e ∷ left) where
+  stands : (slice_get es k ≡ Some e) × (drop (suc k) es ≡ left)
+  stands = next_of es k e left (so_far.rest ∙ is)
+
   -- what holds of e holds of any entry that is told at k
   at_here : (P : Entry → Type 0) → P e → (d : Entry) → slice_get es k ≡ Some d → P d
-  at_here P p d is' = let same : e ≡ d = cc in subst P same p
+  at_here P p d at = subst P (same_Some e d (sym stands.0 ∙ at)) p
 
-  pub passed_more : (S T : Sheet) → Passed es k S → fault S e ≡ None → T ≡ extend S e → Passed es (k + 1) T
-  passed_more S T so_far clean after =
-      record {
+  pub passed_more : (n : ℕ) (T : Sheet) → n ≡ k + 1 → fault S e ≡ None → T ≡ extend S e → Passed es n T left
+  passed_more n T more clean after =
+      subst (λ m. Passed es m T left) (sym more)
+      (record {
         faultless =
-            λ j d below is'.
+            λ j d below at.
             below_more (λ i. (x : Entry) → slice_get es i ≡ Some x → fault (sheet_of (take i es)) x ≡ None) k (λ i h x. so_far.faultless i x h)
-            (at_here (λ x. fault (sheet_of (take k es)) x ≡ None) (sym (ap (λ Z. fault Z e) so_far.sheet) ∙ clean)) j below d is';
-        sheet = after ∙ ap (λ Z. extend Z e) so_far.sheet ∙ sym (sheet_more es k e is);
-      }
+            (at_here (λ x. fault (sheet_of (take k es)) x ≡ None) (sym (ap (λ Z. fault Z e) so_far.sheet) ∙ clean)) j below d at;
+        sheet = after ∙ ap (λ Z. extend Z e) so_far.sheet ∙ sym (sheet_more es k e stands.0);
+        rest = rw add-one stands.1;
+      })
 
-  pub first_fault : (S : Sheet) (r : Reason) → Passed es k S → fault S e ≡ Some r → FirstFault es (record { reason = r; place = k })
-  first_fault S r so_far faulty =
-      record { entry = e; here = is; faulty = sym (ap (λ Z. fault Z e) so_far.sheet) ∙ faulty; before = so_far.faultless }
+  pub first_fault : (n : ℕ) (r : Reason) → n ≡ k → fault S e ≡ Some r → FirstFault es (record { reason = r; place = n })
+  first_fault n r here faulty =
+      subst (λ m. FirstFault es (record { reason = r; place = m })) (sym here)
+      (record { entry = e; here = stands.0; faulty = sym (ap (λ Z. fault Z e) so_far.sheet) ∙ faulty; before = so_far.faultless })
 
 -- and when it has come to the end
 pub record PassedAll (es : List Entry) (S : Sheet) : Type 0 where
   pub faultless : Faultless es
   pub sheet : S ≡ sheet_of es
 
-pub passed_all : (es : List Entry) (k : ℕ) (S : Sheet) → length es ≤ k → Passed es k S → PassedAll es S
-passed_all es k S past so_far =
+pub passed_all : (es : List Entry) (k : ℕ) (S : Sheet) (left : List Entry) → Passed es k S left → left ≡ [] → PassedAll es S
+passed_all es k S left so_far none =
+    let past : length es ≤ k = omega (arith, length-drop k es, ap length (so_far.rest ∙ none)) in
     record {
-      faultless = λ j e is. let below = told_below es j e is in so_far.faultless j e (omega arith) is;
+      faultless = λ j e is. let below = slice_get_within es j e is in so_far.faultless j e (omega arith) is;
       sheet = so_far.sheet ∙ ap sheet_of (take_all k es past);
     }
 
@@ -124,3 +145,16 @@ one_answer es (Ok x) (Ok y) p q = refl
 one_answer es (Ok x) (Err f) p q = absurd (not_both es f p q)
 one_answer es (Err f) (Ok y) p q = absurd (not_both es f q p)
 one_answer es (Err f) (Err g) p q = ap (λ h. Err h) (one_refusal es f g p q)
+
+pub admitted : (S T : Sheet) (e : Entry) (r : Result Unit Reason) → is_ok r ≡ true → Admits S e r T → (fault S e ≡ None) × (T ≡ extend S e)
+admitted S T e (Ok x) is h = h
+admitted S T e (Err x) is h = absurd (false≢true is)
+
+-- what a refusal was made of
+pub err_of : {X E F : Type 0} (R : E → F → Type 0) (x : Result X E) (r : Result X F) (y : F) → MatchResult x (λ u. r ≡ Ok u) (λ e. IsErrAnd r (R e)) → r ≡ Err y
+    → (e : E) × (x ≡ Err e) × R e y
+err_of R (Ok u) r y made is = let z : ◌≡◌ {A = ℕ} 0 1 = cc in absurd (omega arith)
+err_of R (Err e) r y made is = (e, refl, subst (λ v. IsErrAnd v (R e)) is made)
+
+pub refused : (S T : Sheet) (e : Entry) (r : Result Unit Reason) (x : Reason) → r ≡ Err x → Admits S e r T → fault S e ≡ Some x
+refused S T e r x is h = (subst (λ v. Admits S e v T) is h).0

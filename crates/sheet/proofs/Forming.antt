@@ -24,7 +24,7 @@ use Rattle.sheet.specs.Sheets.{Sheet, blank, item, item_of, item_by, width_of, d
 use Rattle.sheet.specs.Faults.{some, how_many, is_name, holds, names_names, has, behind, crowded, present, well_sorted, padded, item_fault, fault_of, fault, arity_of, arity_of_some, row_arity, row_has, rows_have, fits_tuple, fits_binding}
 use Rattle.sheet.specs.Checks.{Faultless}
 use Rattle.sheet.specs.WellFormed.{Every, Each, WithinLimits, ArityFits, ConstructorFits, VariableFits, RowHas, RowFits, WellFormed, LawfulIsWellFormed}
-use Rattle.sheet.proofs.Walks.{told_below}
+use Rattle.std.proofs.lemmas.Option.{slice_get_within}
 use Rattle.sheet.proofs.Growing.{data_only}
 use Rattle.sheet.proofs.Checking.{sheet_more}
 
@@ -91,10 +91,10 @@ declare_extends S (a_row x) =
 -- what fits a sheet fits one that has more
 module _ (S T : Sheet) (more : Extends S T) where
   longer_arities : (k : ℕ) → k < length S.arities → k < length T.arities
-  longer_arities k below = let (x, is) = there S.arities k below in told_below T.arities k x (more.arities k x is)
+  longer_arities k below = let (x, is) = there S.arities k below in slice_get_within T.arities k x (more.arities k x is)
 
   longer_variables : (k : ℕ) → k < length S.variables → k < length T.variables
-  longer_variables k below = let (x, is) = there S.variables k below in told_below T.variables k x (more.variables k x is)
+  longer_variables k below = let (x, is) = there S.variables k below in slice_get_within T.variables k x (more.variables k x is)
 
   arity_kept : (a : ℕ) (x : Arity) → ArityFits S a x → ArityFits T a x
   arity_kept a Name h = h

@@ -15,7 +15,8 @@ use Rattle.sheet.specs.Sheets.{Sheet}
 use Rattle.sheet.specs.Faults.{holds, is_data}
 use Rattle.sheet.specs.Arities.{HasArity, HasArities, Inhabited}
 use Rattle.sheet.specs.Growth.{marked, serves, makes_one, grows, grows_as, Sound, Closed, left_out}
-use Rattle.sheet.proofs.Walks.{told, told_below}
+use Rattle.std.proofs.lemmas.Option.{slice_get_within}
+use Rattle.sheet.proofs.Walks.{told}
 
 -- the loop over the constructors: one serves, or none so far
 module _ (m : Marks) (a : ℕ) (xs : List Constructor) (k : ℕ) where
@@ -101,7 +102,7 @@ module _ (S : Sheet) (m : Marks) where
 
 module _ (S : Sheet) (m : Marks) (closed : Closed S m) (few : length S.arities ≤ 64) where
   closed_at : (a : ℕ) (x : Arity) → slice_get S.arities a ≡ Some x → grows_as S m a (Some x) ≡ true → marked m a ≡ true
-  closed_at a x is h = let below = told_below S.arities a x is in closed a (omega arith) (grows_at S m a x is h)
+  closed_at a x is h = let below = slice_get_within S.arities a x is in closed a (omega arith) (grows_at S m a x is h)
 
   -- a closed set has every arity that has a tree: by induction on the tree
   mutual

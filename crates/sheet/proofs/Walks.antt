@@ -1,8 +1,10 @@
 -- A walk over a list, element by element: what is told at k stands first in what is left there.
 use Rattle.std.proofs.Common.{◌≡◌, ℕ, zero, suc, ◌+◌, ◌<◌, ◌≤◌, Bool, true, false, cond, ◌&&◌, List, [], ◌∷◌, length, drop, Some, None, refl, ap, ◌∙◌, add-one, arith}
 use mir.Val.{bool_byte}
+use Rattle.std.specs.Iterator.{YieldsFirst}
 use Rattle.std.specs.List.{slice_get}
-use Rattle.std.proofs.lemmas.List.{drop_all}
+use Rattle.std.proofs.lemmas.List.{drop_all, drop_more}
+use Rattle.std.proofs.lemmas.Option.{slice_get_within, get_or_from_slice_get}
 use Rattle.sheet.specs.Operands.{all}
 use Rattle.sheet.specs.Faults.{how_many}
 
@@ -11,24 +13,24 @@ cond_byte true = (refl, omega arith)
 cond_byte false = (refl, omega arith)
 
 module _ {X : Type 0} where
-  told_suc : (xs : List X) (k : ℕ) (x : X) → slice_get xs k ≡ Some x → drop k xs ≡ x ∷ drop (suc k) xs
-  told_suc [] k x is = let z : ◌≡◌ {A = ℕ} 0 1 = cc in absurd (omega arith)
-  told_suc (y ∷ xs) zero x is = let same : y ≡ x = cc in ap (λ z. z ∷ xs) same
-  told_suc (y ∷ xs) (suc k) x is = told_suc xs k x is
-
   pub told : (xs : List X) (k : ℕ) (x : X) → slice_get xs k ≡ Some x → drop k xs ≡ x ∷ drop (k + 1) xs
-  told xs k x is = rw add-one (told_suc xs k x is)
+  told xs k x is =
+      drop_more xs k x (slice_get_within xs k x is) ∙ ap (λ y. y ∷ drop (k + 1) xs) (get_or_from_slice_get xs k x x is)
+
+  first_suc : (xs : List X) (k : ℕ) → k < length xs → YieldsFirst (λ left. left) (drop k xs) (slice_get xs k) (drop (suc k) xs)
+  first_suc [] k below = absurd (omega arith)
+  first_suc (x ∷ xs) zero below = refl
+  first_suc (x ∷ xs) (suc k) below = first_suc xs k (omega arith)
+
+  -- what is left at k begins with what is told there
+  pub first_told : (xs : List X) (k : ℕ) → k < length xs → YieldsFirst (λ left. left) (drop k xs) (slice_get xs k) (drop (k + 1) xs)
+  first_told xs k below = rw add-one (first_suc xs k below)
 
   -- nothing is told only past the end
   pub untold : (xs : List X) (k : ℕ) → slice_get xs k ≡ None → length xs ≤ k
   untold [] k is = omega arith
   untold (x ∷ xs) zero is = let z : ◌≡◌ {A = ℕ} 0 1 = cc in absurd (omega arith)
   untold (x ∷ xs) (suc k) is = let h = untold xs k is in omega arith
-
-  pub told_below : (xs : List X) (k : ℕ) (x : X) → slice_get xs k ≡ Some x → k < length xs
-  told_below [] k x is = let z : ◌≡◌ {A = ℕ} 0 1 = cc in absurd (omega arith)
-  told_below (y ∷ xs) zero x is = omega arith
-  told_below (y ∷ xs) (suc k) x is = let h = told_below xs k x is in omega arith
 
   pub untold_rest : (xs : List X) (k : ℕ) → slice_get xs k ≡ None → drop k xs ≡ []
   untold_rest xs k is = drop_all k xs (untold xs k is)

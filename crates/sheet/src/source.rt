@@ -1,9 +1,12 @@
 //! What tells a sheet.
-ghost use Rattle.std.specs.Prelude.{◌≡◌, List, length};
+ghost use Rattle.std.specs.Prelude.{◌≡◌, ◌≤◌, List, drop, length};
+ghost use Rattle.std.specs.Iterator.{YieldsFirst, item_count};
 ghost use Rattle.std.specs.List.{slice_get};
 ghost use Rattle.sheet.specs.declared.entry.Entry.{Entry as SheetEntry};
 
 use crate::entry::Entry;
+use std::marker::Model;
+use std::ops::Range;
 
 /// A source tells a list of entries, one by one. No question is refused or changes the list.
 pub trait SheetSource {
@@ -17,6 +20,45 @@ pub trait SheetSource {
     /// Entry `k`; nothing where `k` is not below their number.
     fn entry(&self, k: usize) -> Option<Entry>
         ensures { result ≡ slice_get (entries self.now) k };
+}
+
+/// The entries that a source has left to tell: to a clause, the list of them.
+#[derive(Drop)]
+pub struct Entries<'a, S: SheetSource> {
+    source: &'a S,
+    numbers: Range<usize>,
+}
+
+impl<'a, S: SheetSource> Model for Entries<'a, S> {
+    ghost Value = { List SheetEntry };
+
+    ghost view = { λ s. drop s.numbers.start (S.entries s.source.now) };
+
+    ghost invariant = { λ s. s.numbers.end ≡ length (S.entries s.source.now) };
+}
+
+impl<'a, S: SheetSource> Entries<'a, S> {
+    /// All entries of the source.
+    pub fn of(source: &'a S) -> Entries<'a, S>
+        ensures { result ≡ S.entries source.now }
+    {
+        Entries {
+            source,
+            numbers: 0..source.count(),
+        }
+    }
+}
+
+impl<'a, S: SheetSource> Iterator for Entries<'a, S> {
+    type Item = Entry;
+
+    ghost next_gives = { YieldsFirst (λ left. left) };
+
+    ghost remaining = { item_count (λ left. left) };
+
+    fn next(&mut self) -> Option<Entry> {
+        self.source.entry(self.numbers.next()?)
+    }
 }
 
 /// The entries are the records of a lent table.
@@ -33,10 +75,6 @@ impl<'a> SheetSource for Records<'a> {
     }
 
     fn entry(&self, k: usize) -> Option<Entry> {
-        if k < self.table.len() {
-            Some(self.table[k])
-        } else {
-            None
-        }
+        self.table.get(k).copied()
     }
 }

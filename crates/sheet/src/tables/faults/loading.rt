@@ -7,7 +7,7 @@ ghost use Rattle.sheet.specs.Tables.{sheet_in, Admits, Loaded};
 use crate::command::Command;
 use crate::entry::Entry;
 use crate::item::{Arity, Constructor, Item, Parts, Row};
-use crate::source::SheetSource;
+use crate::source::{Entries, SheetSource};
 use crate::tables::Tables;
 use refusals::{Reason, Refusal};
 
@@ -94,11 +94,12 @@ impl Tables {
         requires { crowded (sheet_in self.old) item ≡ false }
         ensures { sheet_in self.new ≡ declared (sheet_in self.old) item }
     {
+        // There is room, so each of these answers true.
         let _ = match item {
-            Item::Arity(arity) => self.arities.push(arity),
-            Item::Constructor(c) => self.constructors.push(c),
-            Item::Variable(a) => self.variables.push(a),
-            Item::Row(row) => self.rows.push(row),
+            Item::Arity(arity) => self.arities.push(arity).is_ok(),
+            Item::Constructor(c) => self.constructors.push(c).is_ok(),
+            Item::Variable(a) => self.variables.push(a).is_ok(),
+            Item::Row(row) => self.rows.push(row).is_ok(),
         };
     }
 
@@ -123,15 +124,10 @@ impl Tables {
         ensures { Loaded (S.entries source.now) result }
     {
         let mut tables = Tables::new();
-        for k in 0..source.count() {
-            match source.entry(k) {
-                Some(entry) => {
-                    if let Err(reason) = tables.admit(entry) {
-                        return Err(Refusal { reason, place: k });
-                    }
-                }
-                None => unreachable(),
-            }
+        for (place, entry) in Entries::of(source).enumerate() {
+            tables
+                .admit(entry)
+                .map_err(|reason| Refusal { reason, place })?;
         }
         match tables.lowest_barren() {
             Some(place) => Err(Refusal {

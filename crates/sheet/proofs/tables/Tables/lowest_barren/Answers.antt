@@ -9,7 +9,7 @@ use Rattle.sheet.specs.Growth.{marked}
 use Rattle.sheet.specs.Tables.{sheet_in}
 use Rattle.sheet.specs.declared.item.Arity.TheVariants.{Data}
 use Rattle.sheet.proofs.Growing.{every_tree, data_only}
-use Rattle.sheet.proofs.Walks.{told_below}
+use Rattle.std.proofs.lemmas.Option.{slice_get_within}
 use Rattle.sheet.proofs.tables.Tables.lowest_barren.Goals as goal
 use Rattle.sheet.proofs.tables.Tables.lowest_barren.Goals.{else-names_data-via-then-names_data+else-not-has, else-names_data-via-else-names_data}
 
@@ -39,5 +39,5 @@ loop-a-preserved c =
 pub returns : goal.returns
 returns c a is =
     let few = items_few c.args.self.now.arities in
-    let below = told_below (items c.args.self.now.arities) a Data is in
+    let below = slice_get_within (items c.args.self.now.arities) a Data is in
     c.loop-a.invariant a (omega arith) is
