@@ -9,7 +9,7 @@ use refusals::{Reason, Refusal};
 use sheet::check::check;
 use sheet::command::Command;
 use sheet::entry::Entry;
-use sheet::source::SheetSource;
+use sheet::source::{Entries, SheetSource};
 
 // How many bytes the entry takes.
 #[tactic(auto, using(crate::proofs::Packing::length_bytes))]
@@ -23,20 +23,9 @@ fn width(entry: Entry) -> usize
 fn fits<S: SheetSource>(source: &S, room: usize) -> bool
     ensures { result ≡ nat_lt (length (flat_map bytes_of (S.entries source.now))) room }
 {
-    let mut left = room;
-    for k in 0..source.count() {
-        match source.entry(k) {
-            Some(entry) => {
-                let n = width(entry);
-                if left < n {
-                    return false;
-                }
-                left -= n;
-            }
-            None => unreachable(),
-        }
-    }
-    left > 0
+    Entries::of(source)
+        .try_fold(room, |left, entry| left.checked_sub(width(entry)))
+        .is_some_and(|left| left > 0)
 }
 
 // Writes the entry's bytes from `at` on, and answers where they end.
@@ -61,11 +50,8 @@ pub fn write<S: SheetSource>(source: &S, buffer: &mut [u8]) -> Result<usize, Ref
         return Err(Reason::Short.into());
     }
     let mut at = 0;
-    for k in 0..source.count() {
-        match source.entry(k) {
-            Some(entry) => at = put(buffer, at, entry),
-            None => unreachable(),
-        }
+    for entry in Entries::of(source) {
+        at = put(buffer, at, entry);
     }
     buffer[at] = END;
     Ok(at + 1)
