@@ -1,11 +1,9 @@
 -- Entries' bytes, laid one after another into a buffer.
-use Rattle.std.proofs.Common.{◌≡◌, ℕ, zero, suc, ◌+◌, ◌-◌, ◌<◌, ◌≤◌, Bool, true, false, ltb, List, [], ◌∷◌, ◌++◌, length, get_or, take, drop, set, Some, None, Option, sym, refl, ap, subst, append-nil, ◌∙◌, arith, length-append, length-set}
-use lib.Seq.{paste}
-use Rattle.std.proofs.lemmas.List.{get_or-take, set-set, take-set, take_all, take_at, drop_at, drop-drop, drop-set-lt, set_at, take_more, drop_more, flat_map_more, append_assoc, length_push}
-use Rattle.std.proofs.lemmas.Option.{slice_get-get_or}
-use Rattle.std.proofs.lemmas.List.Edits.{paste_none, paste_more}
+use Rattle.std.proofs.Common.{◌≡◌, ℕ, suc, ◌+◌, ◌<◌, Bool, true, false, ltb, List, [], ◌∷◌, ◌++◌, length, get_or, take, drop, set, Some, None, Option, sym, ap, subst, append-nil, ◌∙◌, arith, length-append}
+use Rattle.std.proofs.lemmas.List.{take_at, drop_at, drop-drop, set_at, drop_more, flat_map_more, append_assoc, length_push}
 use Rattle.std.proofs.lemmas.Bool.{ltb-true}
 use Rattle.std.proofs.lemmas.Bool.Decides.{nat_tests}
+use Rattle.std.proofs.lemmas.Grind.{flat_map-append}
 use Rattle.std.specs.Iterator.{YieldsFirst, Yields, YieldsThen}
 use Rattle.std.specs.List.{flat_map, FoldsTo}
 use Rattle.std.specs.Option.{MatchOption}
@@ -14,42 +12,39 @@ use Rattle.sheet.specs.Commands.{command}
 use Rattle.sheet.specs.Operands.{operand_list}
 use Rattle.packed.specs.Packed.{operand_count, bytes_of, packed_form, end_byte}
 use Rattle.packed.proofs.Packing.{length_bytes}
-use Rattle.std.proofs.lemmas.Grind.{flat_map-append}
 
 -- how many bytes the entries take
 abbrev pub wide : List Entry → ℕ
 wide es = length (flat_map bytes_of es)
 
--- what came, and what is left
-yielded : (es xs left : List Entry) → Yields (YieldsFirst (λ xs. xs)) es xs left → es ≡ xs ++ left
-yielded es [] left y = y
-yielded es (x ∷ xs) left y = y.1 ∙ ap (λ ys. x ∷ ys) (yielded y.0 xs left y.2)
-
--- what a turn of a fold takes off a number are the entry's bytes
+-- a turn of a fold takes the entry's bytes off a number
 abbrev pub TakesBytes : {F : Type 0} → (F × ℕ → Entry → F × ℕ → Type 0) → Type 0
 TakesBytes {F} Turn = (p q : F × ℕ) (e : Entry) → Turn p e q → p.1 ≡ length (bytes_of e) + q.1
 
 module _ {F : Type 0} (Turn : F × ℕ → Entry → F × ℕ → Type 0) where
-  taken_off : TakesBytes Turn → (es : List Entry) (p q : F × ℕ) → FoldsTo Turn p es q → p.1 ≡ wide es + q.1
-  taken_off takes [] p q is = let same = ap (λ (x : F × ℕ). x.1) is in omega arith
-  taken_off takes (e ∷ es) p q folds =
-      omega (arith, takes p folds.0 e folds.1, taken_off takes es folds.0 q folds.2, length-append (bytes_of e) (flat_map bytes_of es))
+  taken_off : TakesBytes Turn → (xs es left : List Entry) (p q : F × ℕ) → Yields (YieldsFirst (λ es. es)) es xs left → FoldsTo Turn p xs q → p.1 + wide left ≡ wide es + q.1
+  taken_off takes [] es left p q y folds =
+      let same = ap wide y in
+      let kept = ap (λ (x : F × ℕ). x.1) folds in
+      omega arith
+  taken_off takes (e ∷ xs) es left p q y folds =
+      let all = ap wide y.1 ∙ length-append (bytes_of e) (flat_map bytes_of y.0) in
+      let here = takes p folds.0 e folds.1 in
+      let on = taken_off takes xs y.0 left folds.0 q y.2 folds.2 in
+      omega arith
 
   -- what such a fold leaves: nothing where the entries have more bytes
   pub left_over : (es u : List Entry) (f : F) (room : ℕ) (r : Option ℕ) (Ends : ℕ → Type 0) (Breaks : F → ℕ → Entry → Type 0) →
-      (xs : List Entry) × (o : Option Entry) × (f' : F) × (a : ℕ) × YieldsThen (YieldsFirst (λ left. left)) es xs o u × FoldsTo Turn (f, room) xs (f', a) × MatchOption o (Ends a) (Breaks f' a) →
+      (xs : List Entry) × (o : Option Entry) × (f' : F) × (a : ℕ) × YieldsThen (YieldsFirst (λ es. es)) es xs o u × FoldsTo Turn (f, room) xs (f', a) × MatchOption o (Ends a) (Breaks f' a) →
       TakesBytes Turn → ((a : ℕ) → Ends a → r ≡ Some a) → ((f' : F) (a : ℕ) (e : Entry) → Breaks f' a e → (r ≡ None) × (a < length (bytes_of e))) →
       MatchOption r (room < wide es) (λ left. left + wide es ≡ room)
   left_over es u f room r Ends Breaks (xs, None, f', a, (t, y, step), folds, end) takes ends breaks =
-      let all = yielded es xs t y ∙ ap (λ ys. xs ++ ys) step.0 ∙ append-nil xs in
-      let less = taken_off takes xs (f, room) (f', a) folds in
-      subst (λ r. MatchOption r (room < wide es) (λ left. left + wide es ≡ room)) (sym (ends a end)) (omega (arith, ap wide all))
-  left_over es u f room r Ends Breaks (xs, Some e, f', a, (t, y, step), folds, break) takes ends breaks =
-      let all = yielded es xs t y ∙ ap (λ ys. xs ++ ys) step in
-      let less = taken_off takes xs (f, room) (f', a) folds in
-      let broken = breaks f' a e break in
-      let long = ap wide all ∙ ap length (flat_map-append bytes_of xs (e ∷ u)) ∙ length-append (flat_map bytes_of xs) (flat_map bytes_of (e ∷ u)) in
-      subst (λ r. MatchOption r (room < wide es) (λ left. left + wide es ≡ room)) (sym broken.0) (omega (arith, length-append (bytes_of e) (flat_map bytes_of u), broken.1))
+      let off = taken_off takes xs es t (f, room) (f', a) y folds in
+      subst (λ r. MatchOption r (room < wide es) (λ left. left + wide es ≡ room)) (sym (ends a end)) (omega (arith, ap wide step.0))
+  left_over es u f room r Ends Breaks (xs, Some e, f', a, (t, y, step), folds, broke) takes ends breaks =
+      let off = taken_off takes xs es t (f, room) (f', a) y folds in
+      let broken = breaks f' a e broke in
+      subst (λ r. MatchOption r (room < wide es) (λ left. left + wide es ≡ room)) (sym broken.0) (omega (arith, ap wide step, length-append (bytes_of e) (flat_map bytes_of u), broken.1))
 
 -- whether it leaves anything
 pub room_says : (r : Option ℕ) (b : Bool) (w room : ℕ) → MatchOption r (room < w) (λ left. left + w ≡ room) → MatchOption r (b ≡ false) (λ left. b ≡ ltb 0 left) → b ≡ ltb w room
@@ -69,9 +64,6 @@ pub record Laid (es left : List Entry) (before buffer : List ℕ) (at : ℕ) : T
   pub split : es ≡ done ++ left
   pub end : at ≡ wide done
   pub bytes : buffer ≡ flat_map bytes_of done ++ drop at before
-
-pub laid_none : (es : List Entry) (before : List ℕ) → Laid es es before before 0
-laid_none es before = record { done = []; split = refl; end = refl; bytes = refl }
 
 -- one more after those that are laid
 lay_on : (before done bytes buffer : List ℕ) (at w : ℕ) → at ≡ length done → buffer ≡ done ++ drop at before →

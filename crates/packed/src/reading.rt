@@ -2,7 +2,7 @@
 ghost use Rattle.std.specs.Prelude.{◌≡◌, ◌+◌, ◌^◌, ◌<◌, length, MatchResult, None, Some};
 ghost use Rattle.packed.specs.Forms.{Read, ending, byte_fault, OneForm, ReadIsForm};
 
-use crate::source::{END, Packed, split_first};
+use crate::source::{END, Packed, first_command};
 use refusals::{Reason, Refusal};
 use sheet::check::check;
 use sheet::command::Command;
@@ -13,21 +13,13 @@ fn ending(place: usize, rest: &[u8]) -> Result<(), Refusal>
     requires { place + length rest.now < 2 ^ 64 }
     ensures { MatchResult result (λ _. ending place rest.now ≡ None) (λ f. ending place rest.now ≡ Some f) }
 {
-    match rest {
-        [END] => Ok(()),
-        [END, ..] => Err(Refusal {
-            reason: Reason::Tail,
-            place: place + 1,
-        }),
-        [byte, ..] if Command::of(*byte).is_none() => Err(Refusal {
-            reason: Reason::Unknown,
-            place,
-        }),
-        _ => Err(Refusal {
-            reason: Reason::Cut,
-            place,
-        }),
-    }
+    let (reason, place) = match rest {
+        [END] => return Ok(()),
+        [END, ..] => (Reason::Tail, place + 1),
+        [byte, ..] if Command::of(*byte).is_none() => (Reason::Unknown, place),
+        _ => (Reason::Cut, place),
+    };
+    Err(Refusal { reason, place })
 }
 
 // What is wrong with the bytes of a packed sheet.
@@ -35,7 +27,7 @@ fn byte_fault(bytes: &[u8]) -> Result<(), Refusal>
     ensures { MatchResult result (λ _. byte_fault bytes.now ≡ None) (λ f. byte_fault bytes.now ≡ Some f) }
 {
     let mut rest = bytes;
-    while let Some((_, after)) = split_first(rest) {
+    while let Some((_, after)) = first_command(rest) {
         rest = after;
     }
     ending(bytes.len() - rest.len(), rest)

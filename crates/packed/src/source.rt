@@ -16,12 +16,19 @@ fn entry_of(byte: u8, given: &[u8]) -> Entry
     ensures { result ≡ entry_of byte given.now }
 {
     let operand = |k: usize| given.get(k).copied().unwrap_or(0);
-    Entry::new(byte, operand(0), operand(1), operand(2), operand(3), operand(4))
+    Entry::new(
+        byte,
+        operand(0),
+        operand(1),
+        operand(2),
+        operand(3),
+        operand(4),
+    )
 }
 
 // The whole command at the front, and the bytes after it. The end byte is no command.
 #[tactic(auto, unfolding(crate::specs::Packed::packed))]
-pub(crate) fn split_first<'a>(bytes: &'a [u8]) -> Option<(Entry, &'a [u8])>
+pub(crate) fn first_command<'a>(bytes: &'a [u8]) -> Option<(Entry, &'a [u8])>
     ensures { MatchOption result (packed bytes.now ≡ []) (λ front. FrontWhole bytes.now front.0 front.1.now) }
 {
     let (byte, after) = bytes.split_first()?;
@@ -44,7 +51,7 @@ impl<'a> Iterator for Commands<'a> {
     ghost remaining = { item_count (λ s. packed s.rest.now) };
 
     fn next(&mut self) -> Option<Entry> {
-        let (entry, rest) = split_first(self.rest)?;
+        let (entry, rest) = first_command(self.rest)?;
         self.rest = rest;
         Some(entry)
     }

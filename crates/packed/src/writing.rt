@@ -29,15 +29,17 @@ fn fits<S: SheetSource>(source: &S, room: usize) -> bool
 }
 
 // Writes the entry's bytes from `at` on, and answers where they end.
+#[tactic(auto, using(crate::proofs::Packing::width_most, crate::proofs::Packing::length_bytes, crate::proofs::Laying::first_bytes))]
 fn put(buffer: &mut [u8], at: usize, e: Entry) -> usize
     requires { at + length (bytes_of e) ≤ length buffer.old }
     ensures end { result ≡ at + length (bytes_of e) }
     ensures after { buffer.new ≡ take at buffer.old ++ bytes_of e ++ drop (at + length (bytes_of e)) buffer.old }
 {
-    let bytes = [e.command, e.a, e.b, e.c, e.d, e.e];
-    let n = width(e);
-    buffer[at..at + n].copy_from_slice(&bytes[..n]);
-    at + n
+    let all = [e.command, e.a, e.b, e.c, e.d, e.e];
+    let bytes = &all[..width(e)];
+    let end = at + bytes.len();
+    buffer[at..end].copy_from_slice(bytes);
+    end
 }
 
 /// Writes the packed form at the start of the buffer and answers its number of bytes.

@@ -1,4 +1,4 @@
-use Rattle.std.proofs.Common.{◌≡◌, sym, refl, ◌∙◌}
+use Rattle.std.proofs.Common.{sym, refl, ◌∙◌}
 use Rattle.std.proofs.lemmas.Iterator.Adapters.{option_map_id}
 use Rattle.std.proofs.lemmas.Iterator.Consumers.{nth_from_yields_List, YieldsList-from_first}
 use Rattle.packed.specs.Packed.{packed}
@@ -8,4 +8,4 @@ pub returns : goal.returns
 returns c =
     sym (option_map_id c.nth.result)
     ∙ nth_from_yields_List _ c.nth.new.self _ c.nth.ensures.ran
-        (YieldsList-from_first (λ e. e) (λ s. packed s.rest.now) {s = record { rest = c.args.self.now.bytes }} _ refl)
+    (YieldsList-from_first (λ e. e) (λ s. packed s.rest.now) {s = record { rest = c.args.self.now.bytes }} _ refl)

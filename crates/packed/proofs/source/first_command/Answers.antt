@@ -1,6 +1,6 @@
 use Rattle.std.proofs.Common.{sym}
 use Rattle.packed.proofs.Packing.{front_split}
-use Rattle.packed.proofs.source.split_first.Goals as goal
+use Rattle.packed.proofs.source.first_command.Goals as goal
 
 pub returns : goal.returns
 returns c =
