@@ -8,8 +8,11 @@ use Rattle.refusals.specs.declared.Reason.{Reason}
 use Rattle.refusals.specs.declared.Reason.TheVariants.{Barren as BarrenReason}
 use Rattle.refusals.specs.declared.Refusal.{Refusal}
 use Rattle.sheet.specs.declared.entry.Entry.{Entry}
-use Rattle.sheet.specs.Sheets.{Sheet, blank, extend, extend_all, sheet_of}
-use Rattle.sheet.specs.Faults.{fault}
+use Rattle.std.specs.Option.{ok_or}
+use Rattle.refusals.specs.declared.Reason.TheVariants.{Unknown}
+use Rattle.sheet.specs.declared.item.Item.{Item}
+use Rattle.sheet.specs.Sheets.{Sheet, blank, item, declare, declare_some, extend, extend_all, sheet_of}
+use Rattle.sheet.specs.Faults.{fault, fault_of, item_fault}
 use Rattle.sheet.specs.Checks.{Faultless, FaultlessBelow, FirstFault, Lawful, LowestBarren, Declined, OneAnswer}
 use Rattle.sheet.specs.Tables.{LowestBarrenIn, Admits}
 use Rattle.std.specs.Result.{is_ok, MatchResult, IsErrAnd}
@@ -158,3 +161,25 @@ err_of R (Err e) r y made is = (e, refl, subst (λ v. IsErrAnd v (R e)) is made)
 
 pub refused : (S T : Sheet) (e : Entry) (r : Result Unit Reason) (x : Reason) → r ≡ Err x → Admits S e r T → fault S e ≡ Some x
 refused S T e r x is h = (subst (λ v. Admits S e v T) is h).0
+
+module _ (S : Sheet) (e : Entry) where
+  unknown_of : (o : Option Item) (x : Reason) → ok_or o Unknown ≡ Err x → fault_of S e o ≡ Some x
+  unknown_of None x is = let same : Unknown ≡ x = cc in ap (λ y. Some y) same
+  unknown_of (Some i) x is = let z : ◌≡◌ {A = ℕ} 0 1 = cc in absurd (omega arith)
+
+  -- an entry whose byte is no command
+  pub unknown_fault : (x : Reason) → ok_or (item S e) Unknown ≡ Err x → fault S e ≡ Some x
+  unfolding fault
+  unknown_fault x is = unknown_of (item S e) x is
+
+  known_of : (o : Option Item) (i : Item) → ok_or o Unknown ≡ Ok i → (fault_of S e o ≡ item_fault S e i) × (declare_some S o ≡ declare S i)
+  known_of None i is = let z : ◌≡◌ {A = ℕ} 0 1 = cc in absurd (omega arith)
+  known_of (Some j) i is = let same : j ≡ i = cc in (ap (item_fault S e) same, ap (declare S) same)
+
+  -- and one that declares i
+  pub known_fault : (i : Item) → ok_or (item S e) Unknown ≡ Ok i → (fault S e ≡ item_fault S e i) × (extend S e ≡ declare S i)
+  unfolding fault
+  known_fault i is = known_of (item S e) i is
+
+  pub declined : (r : Result Unit Reason) (x : Reason) → r ≡ Err x → fault S e ≡ Some x → Admits S e r S
+  declined r x is faulty = subst (λ v. Admits S e v S) (sym is) (faulty, refl)

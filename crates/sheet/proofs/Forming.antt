@@ -1,8 +1,9 @@
 -- A lawful sheet is well formed: entry by entry.
 use Rattle.std.proofs.Common.{◌≡◌, ℕ, zero, suc, ◌+◌, ◌<◌, ◌≤◌, Bool, true, false, cond, not, ◌&&◌, ◌||◌, eqb, ltb, leb, ◌⊎◌, List, [], ◌∷◌, ◌++◌, length, take, Some, None, Option, sym, refl, ap, ◌∙◌, subst, inl, inr, add-one, arith}
-use Rattle.std.specs.List.{slice_get}
+use Rattle.std.specs.List.{slice_get, count_by, list_all}
 use Rattle.std.specs.Option.{option_map}
 use Rattle.std.proofs.lemmas.List.{length_push, length-take, take_all}
+use Rattle.std.proofs.lemmas.List.Sums.{sum_by_push}
 use Rattle.std.proofs.lemmas.Bool.{and_parts, or_parts, ltb-true, ltb-false, leb-false, eqb-true, false≢true, not-false}
 use Rattle.sheet.specs.declared.entry.Entry.{Entry}
 use Rattle.sheet.specs.declared.command.Command.{Command}
@@ -18,10 +19,9 @@ use Rattle.sheet.specs.declared.item.Item.TheVariants.{Arity as an_arity, Constr
 use Rattle.refusals.specs.declared.Reason.TheVariants.{Order, Crowded, Absent, IllSorted, Padding}
 use Rattle.sheet.specs.Limits.{most_arities, most_name_arities, most_constructors, most_variables, most_name_variables, most_rows, most_parts}
 use Rattle.sheet.specs.Commands.{command}
-use Rattle.sheet.specs.Operands.{all}
 use Rattle.sheet.specs.Parts.{parts}
 use Rattle.sheet.specs.Sheets.{Sheet, blank, item, item_of, item_by, width_of, declare, declare_some, extend, sheet_of}
-use Rattle.sheet.specs.Faults.{some, how_many, is_name, holds, names_names, has, behind, crowded, present, well_sorted, padded, item_fault, fault_of, fault, arity_of, arity_of_some, row_arity, row_has, rows_have, fits_tuple, fits_binding}
+use Rattle.sheet.specs.Faults.{some, is_name, holds, names_names, has, behind, crowded, present, well_sorted, padded, item_fault, fault_of, fault, arity_of, arity_of_some, row_arity, row_has, rows_have, fits_tuple, fits_binding}
 use Rattle.sheet.specs.Checks.{Faultless}
 use Rattle.sheet.specs.WellFormed.{Every, Each, WithinLimits, ArityFits, ConstructorFits, VariableFits, RowHas, RowFits, WellFormed, LawfulIsWellFormed}
 use Rattle.std.proofs.lemmas.Option.{slice_get_within}
@@ -42,10 +42,6 @@ module _ {X : Type 0} where
   nth_push (z ∷ xs) y (suc k) x is =
       elim (nth_push xs y k x is) [ inl h ↦ inl h | inr h ↦ inr (ap suc h.0, h.1) ]
 
-  how_many_push : (p : X → Bool) (xs : List X) (y : X) → how_many p (xs ++ y ∷ []) ≡ how_many p xs + cond (p y) 1 0
-  how_many_push p [] y = omega arith
-  how_many_push p (x ∷ xs) y = let h = how_many_push p xs y in omega arith
-
   -- k names an element
   there : (xs : List X) (k : ℕ) → k < length xs → (x : X) × (slice_get xs k ≡ Some x)
   there [] k below = absurd (omega arith)
@@ -65,10 +61,10 @@ same_only : (o : Option ℕ) (a : ℕ) → holds (eqb a) o ≡ true → o ≡ So
 same_only None a h = absurd (false≢true h)
 same_only (Some b) a h = ap (λ x. Some x) (sym (eqb-true a b h))
 
-every_below : {X : Type 0} (xs : List X) (ps : List ℕ) → all (has xs) ps ≡ true → Every (λ p. p < length xs) ps
+every_below : {X : Type 0} (xs : List X) (ps : List ℕ) → list_all (has xs) ps ≡ true → Every (λ p. p < length xs) ps
 every_below xs [] h = tt
 every_below xs (p ∷ ps) h =
-    let h' = and_parts (has xs p) (all (has xs) ps) h in
+    let h' = and_parts (has xs p) (list_all (has xs) ps) h in
     (ltb-true p (length xs) h'.0, every_below xs ps h'.1)
 
 -- T has all that S has, under the same numbers
@@ -192,19 +188,19 @@ module _ (S : Sheet) where
   row_now : (a q : ℕ) → has S.rows q ≡ true → row_has S a q ≡ true → RowHas S (length S.rows) a q
   row_now a q p h = (ltb-true q (length S.rows) p, same_only (row_arity S q) a h)
 
-  each_now : (as' qs : List ℕ) → length as' ≡ length qs → all (has S.rows) qs ≡ true → rows_have S as' qs ≡ true
+  each_now : (as' qs : List ℕ) → length as' ≡ length qs → list_all (has S.rows) qs ≡ true → rows_have S as' qs ≡ true
       → Each (RowHas S (length S.rows)) as' qs
   each_now [] [] e p h = tt
   each_now [] (q ∷ qs) e p h = absurd (omega arith)
   each_now (a ∷ as') [] e p h = absurd (omega arith)
   each_now (a ∷ as') (q ∷ qs) e p h =
-      let p' = and_parts (has S.rows q) (all (has S.rows) qs) p in
+      let p' = and_parts (has S.rows q) (list_all (has S.rows) qs) p in
       let h' = and_parts (row_has S a q) (rows_have S as' qs) h in
       (row_now a q p'.0 h'.0, each_now as' qs (omega arith) p'.1 h'.1)
 
   same_length : (ps qs : Parts) → ps.len ≡ qs.len → length (parts ps) ≡ length (parts qs)
   same_length ps qs e =
-      omega (arith, length-take ps.len (ps.a ∷ ps.b ∷ ps.c ∷ ps.d ∷ []), length-take qs.len (qs.a ∷ qs.b ∷ qs.c ∷ qs.d ∷ []))
+      omega (arith, ps.four, qs.four, length-take ps.len ps.numbers, length-take qs.len qs.numbers)
 
   arity_now : (x : Arity) → crowded S (an_arity x) ≡ false → present S (an_arity x) ≡ true → well_sorted S (an_arity x) ≡ true → ArityFits S (length S.arities) x
   arity_now Name room p h = tt
@@ -222,7 +218,7 @@ module _ (S : Sheet) where
   apply_now None c q at p h = absurd (false≢true h)
   apply_now (Some x) c q at p h = (x, at, row_now x.takes q p h)
 
-  tuple_now : (o : Option Arity) (a : ℕ) (qs : Parts) → slice_get S.arities a ≡ o → all (has S.rows) (parts qs) ≡ true → holds (fits_tuple S (parts qs)) o ≡ true
+  tuple_now : (o : Option Arity) (a : ℕ) (qs : Parts) → slice_get S.arities a ≡ o → list_all (has S.rows) (parts qs) ≡ true → holds (fits_tuple S (parts qs)) o ≡ true
       → qs.len ≡ width_of o → RowFits S (length S.rows) (tuple_row a qs)
   tuple_now None a qs at p h e = absurd (false≢true h)
   tuple_now (Some Name) a qs at p h e = absurd (false≢true h)
@@ -246,7 +242,7 @@ module _ (S : Sheet) where
   row_fits_now (variable_row v) p h m = ltb-true v (length S.variables) p
   row_fits_now (apply_row c q) p h m = apply_now (slice_get S.constructors c) c q refl (and_parts (has S.constructors c) (has S.rows q) p).1 h
   row_fits_now (tuple_row a qs) p h m =
-      tuple_now (slice_get S.arities a) a qs refl (and_parts (has S.arities a) (all (has S.rows) (parts qs)) p).1 h m
+      tuple_now (slice_get S.arities a) a qs refl (and_parts (has S.arities a) (list_all (has S.rows) (parts qs)) p).1 h m
   row_fits_now (bind_row a v q) p h m =
       let p' = and_parts (has S.arities a) (has S.variables v && has S.rows q) p in
       bind_now (slice_get S.arities a) a v q refl (and_parts (has S.variables v) (has S.rows q) p'.1).1 h
@@ -272,17 +268,17 @@ module _ (S : Sheet) (so_far : WellFormed S) where
   limits : (e : Entry) (i : Item) → Clean S e i → WithinLimits (declare S i)
   limits e (an_arity x) c =
       let room = or_parts (leb most_arities (length S.arities)) _ c.has_room in
-      let names = (or_parts (is_name x && leb most_name_arities (how_many is_name S.arities)) _ room.1).0 in
+      let names = (or_parts (is_name x && leb most_name_arities (count_by is_name S.arities)) _ room.1).0 in
       let less = leb-false most_arities (length S.arities) room.0 in
       let later = (or_parts (some S.constructors) (some S.variables || some S.rows) c.in_order).1 in
       let none = none_yet S.variables (or_parts (some S.variables) (some S.rows) later).0 in
       let T = declare S (an_arity x) in
       record {
         arities = omega (arith, length_push S.arities x);
-        name_arities = subst (λ n. n ≤ most_name_arities) (sym (how_many_push is_name S.arities x)) (limited (is_name x) _ most_name_arities names so_far.limits.name_arities);
+        name_arities = subst (λ n. n ≤ most_name_arities) (sym (sum_by_push (λ y. cond (is_name y) 1 0) S.arities x)) (limited (is_name x) _ most_name_arities names so_far.limits.name_arities);
         constructors = so_far.limits.constructors;
         variables = so_far.limits.variables;
-        name_variables = subst (λ vs. how_many (names_names T) vs ≤ most_name_variables) (sym none) (omega arith);
+        name_variables = subst (λ vs. count_by (names_names T) vs ≤ most_name_variables) (sym none) (omega arith);
         rows = so_far.limits.rows;
       }
   limits e (a_constructor x) c =
@@ -304,7 +300,7 @@ module _ (S : Sheet) (so_far : WellFormed S) where
         constructors = so_far.limits.constructors;
         variables = omega (arith, length_push S.variables a);
         name_variables =
-            subst (λ n. n ≤ most_name_variables) (sym (how_many_push (names_names S) S.variables a))
+            subst (λ n. n ≤ most_name_variables) (sym (sum_by_push (λ y. cond (names_names S y) 1 0) S.variables a))
             (limited (names_names S a) _ most_name_variables room.1 so_far.limits.name_variables);
         rows = so_far.limits.rows;
       }

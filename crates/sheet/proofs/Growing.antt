@@ -1,34 +1,22 @@
 -- Which arities have a tree, from those that are known to.
-use Rattle.std.proofs.Common.{◌≡◌, ℕ, zero, suc, ◌+◌, ◌<◌, ◌≤◌, Bool, true, false, cond, ◌&&◌, ◌||◌, eqb, ◌⊎◌, List, [], ◌∷◌, length, get_or, drop, set, Some, None, Option, sym, refl, ap, ◌∙◌, subst, inl, inr, arith, lit<, below_more}
-use Rattle.std.specs.List.{slice_get}
-use Rattle.std.proofs.lemmas.List.{drop_all, get_or-set_other}
-use Rattle.std.proofs.lemmas.Bool.{and_parts, and_from, or_cases, or_left, or_right, eqb-true, eq-eqb, false≢true, cases_eq}
+use Rattle.std.proofs.Common.{◌≡◌, ℕ, zero, suc, ◌+◌, ◌<◌, ◌≤◌, Bool, true, false, cond, not, ◌&&◌, eqb, ◌⊎◌, List, [], ◌∷◌, length, get_or, set, Some, None, Option, sym, refl, ap, ◌∙◌, subst, inl, inr, arith, lit<, below_more}
+use Rattle.std.specs.List.{slice_get, list_all}
+use Rattle.std.proofs.lemmas.List.{get_or-set_other}
+use Rattle.std.proofs.lemmas.Bool.{both_ways, not-true, not-false, and_parts, and_from, or_cases, or_left, or_right, eqb-true, eq-eqb, false≢true, cases_eq}
 use Rattle.trees.specs.Trees.{Tree, name, tick, con, unit, pair, bind}
 use Rattle.sheet.specs.declared.tables.marks.Marks.{Marks}
 use Rattle.sheet.specs.declared.item.Arity.{Arity}
 use Rattle.sheet.specs.declared.item.Arity.TheVariants.{Name, Data, Tick, Tuple, Binding}
 use Rattle.sheet.specs.declared.item.Constructor.{Constructor}
 use Rattle.sheet.specs.declared.item.Parts.{Parts}
-use Rattle.sheet.specs.Operands.{all}
 use Rattle.sheet.specs.Parts.{parts}
 use Rattle.sheet.specs.Sheets.{Sheet}
 use Rattle.sheet.specs.Faults.{holds, is_data}
+use Rattle.std.specs.Option.{MatchOption}
+use Rattle.sheet.specs.Tables.{LowestBarrenIn}
 use Rattle.sheet.specs.Arities.{HasArity, HasArities, Inhabited}
-use Rattle.sheet.specs.Growth.{marked, serves, makes_one, grows, grows_as, Sound, Closed, left_out}
+use Rattle.sheet.specs.Growth.{marked, makes_one, grows, grows_as, Sound, Closed, left_out}
 use Rattle.std.proofs.lemmas.Option.{slice_get_within}
-use Rattle.sheet.proofs.Walks.{told}
-
--- the loop over the constructors: one serves, or none so far
-module _ (m : Marks) (a : ℕ) (xs : List Constructor) (k : ℕ) where
-  pub made_here : (x : Constructor) → slice_get xs k ≡ Some x → serves m a x ≡ true → makes_one m a (drop k xs) ≡ true
-  made_here x is serves = ap (makes_one m a) (told xs k x is) ∙ ap (λ b. b || makes_one m a (drop (k + 1) xs)) serves
-
-  pub made_later : (x : Constructor) → slice_get xs k ≡ Some x → serves m a x ≡ false
-      → makes_one m a (drop k xs) ≡ makes_one m a (drop (k + 1) xs)
-  made_later x is fails = ap (makes_one m a) (told xs k x is) ∙ ap (λ b. b || makes_one m a (drop (k + 1) xs)) fails
-
-  pub made_never : length xs ≤ k → makes_one m a (drop k xs) ≡ false
-  made_never past = ap (makes_one m a) (drop_all k xs past)
 
 -- a constructor that serves
 pub record Maker (m : Marks) (a : ℕ) (xs : List Constructor) : Type 0 where
@@ -60,10 +48,10 @@ made_by m a (y ∷ xs) zero x is p q =
 made_by m a (y ∷ xs) (suc c) x is p q = or_right (eqb y.makes a && marked m y.takes) (makes_one m a xs) (made_by m a xs c x is p q)
 
 -- a tuple of trees of marked arities
-tuple_tree : (S : Sheet) (m : Marks) → Sound S m → (ps : List ℕ) → all (marked m) ps ≡ true → (t : Tree) × HasArities S ps t
+tuple_tree : (S : Sheet) (m : Marks) → Sound S m → (ps : List ℕ) → list_all (marked m) ps ≡ true → (t : Tree) × HasArities S ps t
 tuple_tree S m sound [] h = (unit, refl)
 tuple_tree S m sound (p ∷ ps) h =
-    let parts_of = and_parts (marked m p) (all (marked m) ps) h in
+    let parts_of = and_parts (marked m p) (list_all (marked m) ps) h in
     let (t, has) = sound p parts_of.0 in
     let (u, have) = tuple_tree S m sound ps parts_of.1 in
     (pair t u, (p, ps, refl, has, have))
@@ -112,21 +100,21 @@ module _ (S : Sheet) (m : Marks) (closed : Closed S m) (few : length S.arities �
     every_tree (con c t) a h =
         let (x, here, makes_a, has) = h.1 in
         closed_at a Data h.0 (made_by m a S.constructors c x here makes_a (every_tree t x.takes has))
-    every_tree unit a h = closed_at a (Tuple h.0) h.1 (ap (all (marked m)) h.2)
+    every_tree unit a h = closed_at a (Tuple h.0) h.1 (ap (list_all (marked m)) h.2)
     every_tree (pair t u) a h =
         let (ps, p, qs, is, split, has, have) = h in
         closed_at a (Tuple ps) is
-        (ap (all (marked m)) split ∙ and_from (marked m p) (all (marked m) qs) (every_tree t p has) (every_tuple u qs have))
+        (ap (list_all (marked m)) split ∙ and_from (marked m p) (list_all (marked m) qs) (every_tree t p has) (every_tuple u qs have))
     every_tree (bind n t) a h = closed_at a (Binding n.arity h.0) h.1 (every_tree t h.0 h.2)
 
-    every_tuple : (t : Tree) (ps : List ℕ) → HasArities S ps t → all (marked m) ps ≡ true
+    every_tuple : (t : Tree) (ps : List ℕ) → HasArities S ps t → list_all (marked m) ps ≡ true
     every_tuple (name n) ps h = absurd h
     every_tuple (tick k) ps h = absurd h
     every_tuple (con c t) ps h = absurd h
-    every_tuple unit ps h = ap (all (marked m)) h
+    every_tuple unit ps h = ap (list_all (marked m)) h
     every_tuple (pair t u) ps h =
         let (p, qs, split, has, have) = h in
-        ap (all (marked m)) split ∙ and_from (marked m p) (all (marked m) qs) (every_tree t p has) (every_tuple u qs have)
+        ap (list_all (marked m)) split ∙ and_from (marked m p) (list_all (marked m) qs) (every_tree t p has) (every_tuple u qs have)
     every_tuple (bind n t) ps h = absurd h
 
 -- one arity more in the set
@@ -174,3 +162,25 @@ data_only (Some Data) h = refl
 data_only (Some Tick) h = absurd (false≢true h)
 data_only (Some (Tuple ps)) h = absurd (false≢true h)
 data_only (Some (Binding n a)) h = absurd (false≢true h)
+
+-- the first data arity outside a set that is sound and closed
+module _ (S : Sheet) (m : Marks) (sound : Sound S m) (closed : Closed S m) (few : length S.arities ≤ 64) where
+  fruitful : (a : ℕ) → (holds is_data (slice_get S.arities a) && not (marked m a)) ≡ false → slice_get S.arities a ≡ Some Data → Inhabited S a
+  fruitful a tested is = sound a (not-false (marked m a) (sym (ap (λ o. holds is_data o && not (marked m a)) is) ∙ tested))
+
+  pub lowest_of : (r : Option ℕ)
+      → MatchOption r ((a : ℕ) → 0 ≤ a → a < 64 → (holds is_data (slice_get S.arities a) && not (marked m a)) ≡ false)
+      (λ b. (0 ≤ b) × (b < 64) × ((holds is_data (slice_get S.arities b) && not (marked m b)) ≡ true) × ((a : ℕ) → 0 ≤ a → a < b → (holds is_data (slice_get S.arities a) && not (marked m a)) ≡ false))
+      → LowestBarrenIn S r
+  lowest_of None found =
+      λ a is.
+      let below = slice_get_within S.arities a Data is in
+      fruitful a (found a (omega arith) (omega arith)) is
+  lowest_of (Some b) found =
+      let h = and_parts (holds is_data (slice_get S.arities b)) (not (marked m b)) found.2 in (
+        (
+          data_only (slice_get S.arities b) h.0,
+          λ tree. both_ways (marked m b) (not-true (marked m b) h.1) (every_tree S m closed few tree.0 b tree.1),
+        ),
+        λ a below is. fruitful a (found.3 a (omega arith) below) is,
+      )

@@ -7,7 +7,7 @@
 -- padded e i        an operand that it does not use is not 0
 -- fault S e         the first of these, in the order of their numbers
 use Rattle.std.specs.Prelude.{ℕ, ◌+◌, Bool, true, false, cond, not, ◌&&◌, ◌||◌, List, [], ◌∷◌, length, Some, None, Option, nat_eq, nat_le, nat_lt}
-use Rattle.std.specs.List.{slice_get}
+use Rattle.std.specs.List.{slice_get, count_by, list_all}
 use Rattle.std.specs.Option.{option_map}
 use Rattle.refusals.specs.declared.Reason.{Reason}
 use Rattle.refusals.specs.declared.Reason.TheVariants.{Unknown, Order, Crowded, Absent, IllSorted, Padding}
@@ -19,17 +19,13 @@ use Rattle.sheet.specs.declared.item.Row.TheVariants.{Variable as variable_row, 
 use Rattle.sheet.specs.declared.item.Item.{Item}
 use Rattle.sheet.specs.declared.item.Item.TheVariants.{Arity as an_arity, Constructor as a_constructor, Variable as a_variable, Row as a_row}
 use Rattle.sheet.specs.Limits.{most_arities, most_name_arities, most_constructors, most_variables, most_name_variables, most_rows, most_parts}
-use Rattle.sheet.specs.Operands.{all, nonzero_past}
+use Rattle.sheet.specs.Operands.{nonzero_past}
 use Rattle.sheet.specs.Parts.{parts}
 use Rattle.sheet.specs.Sheets.{Sheet, item}
 
 abbrev pub some : {X : Type 0} → List X → Bool
 some [] = false
 some (x ∷ xs) = true
-
-abbrev pub how_many : {X : Type 0} → (X → Bool) → List X → ℕ
-how_many p [] = 0
-how_many p (x ∷ xs) = cond (p x) 1 0 + how_many p xs
 
 abbrev pub is_name : Arity → Bool
 is_name Name = true
@@ -68,10 +64,10 @@ too_wide (Binding n a) = false
 
 abbrev pub crowded : Sheet → Item → Bool
 crowded S (an_arity x) =
-    nat_le most_arities (length S.arities) || ((is_name x && nat_le most_name_arities (how_many is_name S.arities)) || too_wide x)
+    nat_le most_arities (length S.arities) || ((is_name x && nat_le most_name_arities (count_by is_name S.arities)) || too_wide x)
 crowded S (a_constructor x) = nat_le most_constructors (length S.constructors)
 crowded S (a_variable a) =
-    nat_le most_variables (length S.variables) || (names_names S a && nat_le most_name_variables (how_many (names_names S) S.variables))
+    nat_le most_variables (length S.variables) || (names_names S a && nat_le most_name_variables (count_by (names_names S) S.variables))
 crowded S (a_row x) = nat_le most_rows (length S.rows)
 
 -- k is the number of an element
@@ -82,13 +78,13 @@ abbrev pub present_arity : Sheet → Arity → Bool
 present_arity S Name = true
 present_arity S Data = true
 present_arity S Tick = true
-present_arity S (Tuple ps) = all (has S.arities) (parts ps)
+present_arity S (Tuple ps) = list_all (has S.arities) (parts ps)
 present_arity S (Binding n a) = has S.arities n && has S.arities a
 
 abbrev pub present_row : Sheet → Row → Bool
 present_row S (variable_row v) = has S.variables v
 present_row S (apply_row c r) = has S.constructors c && has S.rows r
-present_row S (tuple_row a rs) = has S.arities a && all (has S.rows) (parts rs)
+present_row S (tuple_row a rs) = has S.arities a && list_all (has S.rows) (parts rs)
 present_row S (bind_row a v r) = has S.arities a && (has S.variables v && has S.rows r)
 
 abbrev pub present : Sheet → Item → Bool

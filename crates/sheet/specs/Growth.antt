@@ -5,14 +5,13 @@
 -- Sound S m       every arity in m has a tree
 -- Closed S m      what has a tree where those of m have is in m
 -- Sweeps S m r n  from m to n: r says whether anything was added
-use Rattle.std.specs.Prelude.{◌≡◌, ℕ, ◌+◌, ◌<◌, Bool, true, false, cond, ◌&&◌, ◌||◌, List, [], ◌∷◌, Some, None, Option, ◌==◌, slice_index_or}
-use Rattle.std.specs.List.{slice_get}
+use Rattle.std.specs.Prelude.{◌≡◌, ℕ, ◌+◌, ◌<◌, Bool, true, false, cond, ◌&&◌, List, [], ◌∷◌, Some, None, Option, ◌==◌, slice_index_or}
+use Rattle.std.specs.List.{slice_get, list_all, list_any}
 use Rattle.sheet.specs.declared.tables.marks.Marks.{Marks}
 use Rattle.sheet.specs.declared.item.Arity.{Arity}
 use Rattle.sheet.specs.declared.item.Arity.TheVariants.{Name, Data, Tick, Tuple, Binding}
 use Rattle.sheet.specs.declared.item.Constructor.{Constructor}
 use Rattle.sheet.specs.Limits.{most_arities}
-use Rattle.sheet.specs.Operands.{all}
 use Rattle.sheet.specs.Parts.{parts}
 use Rattle.sheet.specs.Sheets.{Sheet}
 use Rattle.sheet.specs.Arities.{Inhabited}
@@ -21,15 +20,14 @@ abbrev pub marked : Marks → ℕ → Bool
 marked m a = slice_index_or m.at a false
 
 abbrev pub all_marked : Marks → List ℕ → Bool
-all_marked m ps = all (marked m) ps
+all_marked m ps = list_all (marked m) ps
 
 -- the constructor makes a tree of arity a of one of an arity in m
 abbrev pub serves : Marks → ℕ → Constructor → Bool
 serves m a x = x.makes == a && marked m x.takes
 
 abbrev pub makes_one : Marks → ℕ → List Constructor → Bool
-makes_one m a [] = false
-makes_one m a (x ∷ xs) = serves m a x || makes_one m a xs
+makes_one m a xs = list_any (serves m a) xs
 
 abbrev pub grows_as : Sheet → Marks → ℕ → Option Arity → Bool
 grows_as S m a None = false

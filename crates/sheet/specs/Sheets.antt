@@ -3,7 +3,7 @@
 -- declare S i    sheet S with one more declaration
 -- extend S e     sheet S with one more entry
 -- sheet_of es    the sheet of a list of entries
-use Rattle.std.specs.Prelude.{ℕ, List, [], ◌∷◌, ◌++◌, Some, None, Option}
+use Rattle.std.specs.Prelude.{ℕ, List, [], ◌∷◌, ◌++◌, Some, None, Option, refl}
 use Rattle.std.specs.List.{slice_get}
 use Rattle.sheet.specs.Commands.{command}
 use Rattle.sheet.specs.declared.entry.Entry.{Entry}
@@ -38,7 +38,7 @@ width_of (Some (Binding n a)) = 0
 
 -- the operands of an entry from the second on, as the parts of a tuple
 abbrev pub operand_parts : ℕ → Entry → Parts
-operand_parts n e = record { len = n; a = e.b; b = e.c; c = e.d; d = e.e }
+operand_parts n e = record { len = n; numbers = e.b ∷ e.c ∷ e.d ∷ e.e ∷ []; four = refl }
 
 abbrev pub item_by : Sheet → Entry → Command → Item
 item_by S e NameArity = an_arity Name

@@ -4,7 +4,7 @@
 -- ArityFits S a x, ConstructorFits S x, VariableFits S a, RowFits S r x
 --                 what is named is there, of the right kind and arity; arities and rows name earlier ones only
 use Rattle.std.specs.Prelude.{◌≡◌, ℕ, ◌<◌, ◌≤◌, List, [], ◌∷◌, length, Some}
-use Rattle.std.specs.List.{slice_get}
+use Rattle.std.specs.List.{slice_get, count_by}
 use Rattle.sheet.specs.declared.entry.Entry.{Entry}
 use Rattle.sheet.specs.declared.item.Parts.{Parts}
 use Rattle.sheet.specs.declared.item.Arity.{Arity}
@@ -15,7 +15,7 @@ use Rattle.sheet.specs.declared.item.Row.TheVariants.{Variable as variable_row, 
 use Rattle.sheet.specs.Limits.{most_arities, most_name_arities, most_constructors, most_variables, most_name_variables, most_rows, most_parts}
 use Rattle.sheet.specs.Parts.{parts}
 use Rattle.sheet.specs.Sheets.{Sheet, sheet_of}
-use Rattle.sheet.specs.Faults.{how_many, is_name, names_names, row_arity}
+use Rattle.sheet.specs.Faults.{is_name, names_names, row_arity}
 use Rattle.sheet.specs.Checks.{Lawful}
 
 -- P holds of every number of the list
@@ -32,10 +32,10 @@ Each P (x ∷ xs) (y ∷ ys) = P x y × Each P xs ys
 
 pub record WithinLimits (S : Sheet) : Type 0 where
   pub arities : length S.arities ≤ most_arities
-  pub name_arities : how_many is_name S.arities ≤ most_name_arities
+  pub name_arities : count_by is_name S.arities ≤ most_name_arities
   pub constructors : length S.constructors ≤ most_constructors
   pub variables : length S.variables ≤ most_variables
-  pub name_variables : how_many (names_names S) S.variables ≤ most_name_variables
+  pub name_variables : count_by (names_names S) S.variables ≤ most_name_variables
   pub rows : length S.rows ≤ most_rows
 
 abbrev pub ArityFits : Sheet → ℕ → Arity → Type 0

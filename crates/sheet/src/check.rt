@@ -12,8 +12,6 @@ pub fn check<S: SheetSource>(source: &S) -> Result<(), Refusal>
     ensures one { OneAnswer }
     ensures formed { LawfulIsWellFormed }
 {
-    match Tables::load(source) {
-        Ok(_) => Ok(()),
-        Err(refusal) => Err(refusal),
-    }
+    Tables::load(source)?;
+    Ok(())
 }

@@ -1,9 +1,13 @@
 //! The commands of a sheet and their bytes.
 ghost use Rattle.std.specs.Prelude.{◌≡◌};
+ghost use Rattle.std.specs.Option.{ok_or};
+ghost use Rattle.refusals.specs.declared.Reason.TheVariants.{Unknown};
 ghost use Rattle.sheet.specs.Commands.{command, operands};
 
+use refusals::Reason;
+
 /// The eleven commands, in the order of their bytes.
-#[derive(Clone, Copy)]
+#[derive(Clone, Copy, PartialEq, Eq, Debug)]
 pub enum Command {
     NameArity,
     DataArity,
@@ -18,27 +22,31 @@ pub enum Command {
     BindRow,
 }
 
-impl Command {
-    /// The command of a byte; nothing where the byte is no command.
-    pub fn of(byte: u8) -> Option<Command>
-        ensures { result ≡ command byte }
-    {
+/// The command of a byte; else the byte is unknown.
+impl TryFrom<u8> for Command {
+    type Error = Reason;
+
+    ghost try_from_gives = { λ byte r. r ≡ ok_or (command byte) Unknown };
+
+    fn try_from(byte: u8) -> Result<Command, Reason> {
         match byte {
-            0x01 => Some(Command::NameArity),
-            0x02 => Some(Command::DataArity),
-            0x03 => Some(Command::TickArity),
-            0x04 => Some(Command::TupleArity),
-            0x05 => Some(Command::BindingArity),
-            0x10 => Some(Command::Constructor),
-            0x20 => Some(Command::Variable),
-            0x30 => Some(Command::VariableRow),
-            0x31 => Some(Command::ApplyRow),
-            0x32 => Some(Command::TupleRow),
-            0x33 => Some(Command::BindRow),
-            _ => None,
+            0x01 => Ok(Command::NameArity),
+            0x02 => Ok(Command::DataArity),
+            0x03 => Ok(Command::TickArity),
+            0x04 => Ok(Command::TupleArity),
+            0x05 => Ok(Command::BindingArity),
+            0x10 => Ok(Command::Constructor),
+            0x20 => Ok(Command::Variable),
+            0x30 => Ok(Command::VariableRow),
+            0x31 => Ok(Command::ApplyRow),
+            0x32 => Ok(Command::TupleRow),
+            0x33 => Ok(Command::BindRow),
+            _ => Err(Reason::Unknown),
         }
     }
+}
 
+impl Command {
     /// How many operand bytes follow the command byte in packed form.
     pub fn operands(self) -> usize
         ensures { result ≡ operands self }

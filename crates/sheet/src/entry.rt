@@ -3,7 +3,8 @@ ghost use Rattle.std.specs.Prelude.{◌≡◌, [], ◌∷◌, slice_index};
 ghost use Rattle.sheet.specs.Operands.{operand_list, entry_of};
 
 /// A command byte and five operand bytes; operands that the command lacks are 0 in a lawful sheet.
-#[derive(Clone, Copy)]
+// Each command reads its operands by their letters; in an array, every fact about an entry would need that it has five.
+#[derive(Clone, Copy, PartialEq, Eq, Debug)]
 pub struct Entry {
     pub command: u8,
     pub a: u8,
@@ -28,17 +29,17 @@ impl Entry {
         }
     }
 
+    /// The five operands.
+    pub fn operands(self) -> [u8; 5]
+        ensures { result ≡ operand_list self }
+    {
+        [self.a, self.b, self.c, self.d, self.e]
+    }
+
     /// Operand `i`, from 0 on; 0 past the fifth.
     pub fn operand(self, i: usize) -> u8
         ensures { result ≡ slice_index (operand_list self) i }
     {
-        match i {
-            0 => self.a,
-            1 => self.b,
-            2 => self.c,
-            3 => self.d,
-            4 => self.e,
-            _ => 0,
-        }
+        self.operands().get(i).copied().unwrap_or(0)
     }
 }

@@ -1,20 +1,18 @@
 //! What an entry declares.
-ghost use Rattle.std.specs.Prelude.{◌≡◌};
-ghost use Rattle.std.specs.List.{slice_get};
-ghost use Rattle.sheet.specs.Parts.{parts};
+ghost use Rattle.std.specs.Prelude.{◌≡◌, length};
 
-/// The parts of a tuple: the first `len` of four numbers.
-#[derive(Clone, Copy)]
+mod numbers;
+
+/// The parts of a tuple: the first `len` of four numbers, or all of them where it is crowded.
+#[derive(Clone, Copy, PartialEq, Eq, Debug)]
 pub struct Parts {
     pub len: u8,
-    pub a: u8,
-    pub b: u8,
-    pub c: u8,
-    pub d: u8,
+    pub numbers: [u8; 4],
+    ghost four: { length numbers ≡ 4 },
 }
 
 /// An arity: what kind of trees there are under its number.
-#[derive(Clone, Copy)]
+#[derive(Clone, Copy, PartialEq, Eq, Debug)]
 pub enum Arity {
     Name,
     Data,
@@ -25,14 +23,14 @@ pub enum Arity {
 }
 
 /// A constructor makes a tree of the data arity `makes` of a tree of the arity `takes`.
-#[derive(Clone, Copy)]
+#[derive(Clone, Copy, PartialEq, Eq, Debug)]
 pub struct Constructor {
     pub makes: u8,
     pub takes: u8,
 }
 
 /// A row stands for a tree once the variables have values.
-#[derive(Clone, Copy)]
+#[derive(Clone, Copy, PartialEq, Eq, Debug)]
 pub enum Row {
     Variable(u8),
     Apply { constructor: u8, row: u8 },
@@ -41,29 +39,11 @@ pub enum Row {
 }
 
 /// One declaration of any of the four groups.
-#[derive(Clone, Copy)]
+#[derive(Clone, Copy, PartialEq, Eq, Debug)]
 pub enum Item {
     Arity(Arity),
     Constructor(Constructor),
     /// A variable, by its arity.
     Variable(u8),
     Row(Row),
-}
-
-impl Parts {
-    /// Part `k`; nothing past the last.
-    pub fn get(self, k: u8) -> Option<u8>
-        ensures { result ≡ slice_get (parts self) k }
-    {
-        if k >= self.len {
-            return None;
-        }
-        match k {
-            0 => Some(self.a),
-            1 => Some(self.b),
-            2 => Some(self.c),
-            3 => Some(self.d),
-            _ => None,
-        }
-    }
 }

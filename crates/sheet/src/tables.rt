@@ -1,9 +1,10 @@
 //! A sheet in plain tables.
-ghost use Rattle.std.specs.Prelude.{◌≡◌, nat_eq};
+ghost use Rattle.std.specs.Prelude.{◌≡◌, count_by, nat_eq};
 ghost use Rattle.std.specs.List.{slice_get};
+ghost use Rattle.bounded.specs.Items.{items};
 ghost use Rattle.sheet.specs.Parts.{parts};
 ghost use Rattle.sheet.specs.Sheets.{blank, width_of};
-ghost use Rattle.sheet.specs.Faults.{arity_of, row_arity, row_has, rows_have, names_names, how_many, is_name, is_data, has, holds};
+ghost use Rattle.sheet.specs.Faults.{arity_of, row_arity, row_has, rows_have, names_names, is_name, is_data, has, holds};
 ghost use Rattle.sheet.specs.Tables.{sheet_in};
 
 use crate::item::{Arity, Constructor, Parts, Row};
@@ -36,26 +37,11 @@ pub struct Tables {
     pub rows: Bounded<Row, ROWS>,
 }
 
-impl Arity {
-    // Whether its trees are names.
-    fn is_name(self) -> bool
-        ensures { result ≡ is_name self }
-    {
-        match self {
-            Arity::Name => true,
-            _ => false,
-        }
-    }
-
-    // Whether its trees are made by constructors.
-    fn is_data(self) -> bool
-        ensures { result ≡ is_data self }
-    {
-        match self {
-            Arity::Data => true,
-            _ => false,
-        }
-    }
+// Whether `k` is the number of an element.
+fn has<T: Copy, const N: usize>(list: &Bounded<T, N>, k: u8) -> bool
+    ensures { result ≡ has (items list.now) k }
+{
+    usize::from(k) < list.len()
 }
 
 impl Tables {
@@ -69,27 +55,6 @@ impl Tables {
             variables: Bounded::new(0),
             rows: Bounded::new(Row::Variable(0)),
         }
-    }
-
-    // Whether `a` is the number of an arity.
-    fn has_arity(&self, a: u8) -> bool
-        ensures { result ≡ has (sheet_in self.now).arities a }
-    {
-        usize::from(a) < self.arities.len()
-    }
-
-    // Whether `v` is the number of a variable.
-    fn has_variable(&self, v: u8) -> bool
-        ensures { result ≡ has (sheet_in self.now).variables v }
-    {
-        usize::from(v) < self.variables.len()
-    }
-
-    // Whether `r` is the number of a row.
-    fn has_row(&self, r: u8) -> bool
-        ensures { result ≡ has (sheet_in self.now).rows r }
-    {
-        usize::from(r) < self.rows.len()
     }
 
     // How many parts the arity has: 0 for what is no tuple arity.
@@ -106,30 +71,21 @@ impl Tables {
     fn names_names(&self, a: u8) -> bool
         ensures { result ≡ names_names (sheet_in self.now) a }
     {
-        match self.arities.get(usize::from(a)) {
-            Some(arity) => arity.is_name(),
-            None => false,
-        }
+        matches!(self.arities.get(usize::from(a)), Some(Arity::Name))
     }
 
     // Whether `a` is the number of a data arity.
     fn names_data(&self, a: usize) -> bool
         ensures { result ≡ holds is_data (slice_get (sheet_in self.now).arities a) }
     {
-        match self.arities.get(a) {
-            Some(arity) => arity.is_data(),
-            None => false,
-        }
+        matches!(self.arities.get(a), Some(Arity::Data))
     }
 
     // Whether variable `v` has the arity `a`.
     fn variable_has(&self, a: u8, v: u8) -> bool
         ensures { result ≡ holds (nat_eq a) (slice_get (sheet_in self.now).variables v) }
     {
-        match self.variables.get(usize::from(v)) {
-            Some(b) => a == b,
-            None => false,
-        }
+        self.variables.get(usize::from(v)) == Some(a)
     }
 
     /// The arity of a row, which may be none of the sheet's.
@@ -138,13 +94,10 @@ impl Tables {
     {
         match row {
             Row::Variable(v) => self.variables.get(usize::from(v)),
-            Row::Apply { constructor, .. } => match self
+            Row::Apply { constructor, .. } => self
                 .constructors
                 .get(usize::from(constructor))
-            {
-                Some(c) => Some(c.makes),
-                None => None,
-            },
+                .map(|c| c.makes),
             Row::Tuple { arity, .. } => Some(arity),
             Row::Bind { arity, .. } => Some(arity),
         }
@@ -154,65 +107,44 @@ impl Tables {
     fn row_arity(&self, r: u8) -> Option<u8>
         ensures { result ≡ row_arity (sheet_in self.now) r }
     {
-        match self.rows.get(usize::from(r)) {
-            Some(row) => self.arity_of(row),
-            None => None,
-        }
+        self.arity_of(self.rows.get(usize::from(r))?)
     }
 
     // Whether row `r` has the arity `a`.
     fn row_has(&self, a: u8, r: u8) -> bool
         ensures { result ≡ row_has (sheet_in self.now) a r }
     {
-        match self.row_arity(r) {
-            Some(b) => a == b,
-            None => false,
-        }
+        self.row_arity(r) == Some(a)
     }
 
     // Whether each arity has a row of it, one by one.
     fn rows_have(&self, arities: Parts, rows: Parts) -> bool
         ensures { result ≡ rows_have (sheet_in self.now) (parts arities) (parts rows) }
     {
-        for i in 0..PARTS {
-            let Some(a) = arities.get(i) else {
-                return true;
-            };
-            let Some(r) = rows.get(i) else {
-                return false;
-            };
-            if !self.row_has(a, r) {
-                return false;
-            }
-        }
-        true
+        let arities = arities.as_slice();
+        let rows = rows.as_slice();
+        arities.len() <= rows.len() && arities.iter().zip(rows).all(|(a, r)| self.row_has(*a, *r))
     }
 
     // How many name arities there are.
     fn name_arities(&self) -> usize
-        ensures { result ≡ how_many is_name (sheet_in self.now).arities }
+        ensures { result ≡ count_by is_name (sheet_in self.now).arities }
     {
-        let mut n = 0;
-        for a in 0..self.arities.len() {
-            let Some(arity) = self.arities.get(a) else {
-                return n;
-            };
-            n += usize::from(arity.is_name());
-        }
-        n
+        self.arities
+            .as_slice()
+            .iter()
+            .filter(|x| matches!(x, Arity::Name))
+            .count()
     }
 
     // How many name variables there are.
     fn name_variables(&self) -> usize
-        ensures { result ≡ how_many (names_names (sheet_in self.now)) (sheet_in self.now).variables }
+        ensures { result ≡ count_by (names_names (sheet_in self.now)) (sheet_in self.now).variables }
     {
-        let mut n = 0;
-        for v in 0..self.variables.len() {
-            let Some(a) = self.variables.get(v) else {
-                return n;
-            };
-            n += usize::from(self.names_names(a));
-        }
-        n
+        self.variables
+            .as_slice()
+            .iter()
+            .filter(|a| self.names_names(**a))
+            .count()
     }
 }

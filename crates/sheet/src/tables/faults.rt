@@ -1,6 +1,7 @@
 //! What may be wrong with the next entry.
 ghost use Rattle.std.specs.Prelude.{◌≡◌, nat_lt};
-ghost use Rattle.sheet.specs.Operands.{all, nonzero_past};
+ghost use Rattle.std.specs.List.{list_all};
+ghost use Rattle.sheet.specs.Operands.{nonzero_past};
 ghost use Rattle.sheet.specs.Parts.{parts};
 ghost use Rattle.sheet.specs.Faults.{behind, crowded, present, well_sorted, used};
 ghost use Rattle.sheet.specs.Tables.{sheet_in};
@@ -8,7 +9,7 @@ ghost use Rattle.sheet.specs.Tables.{sheet_in};
 use crate::entry::Entry;
 use crate::item::{Arity, Item, Parts, Row};
 use crate::tables::{
-    ARITIES, CONSTRUCTORS, NAME_ARITIES, NAME_VARIABLES, PARTS, ROWS, Tables, VARIABLES,
+    ARITIES, CONSTRUCTORS, NAME_ARITIES, NAME_VARIABLES, PARTS, ROWS, Tables, VARIABLES, has,
 };
 
 mod loading;
@@ -18,29 +19,16 @@ impl Entry {
     fn nonzero_past(self, n: usize) -> bool
         ensures { result ≡ nonzero_past n self }
     {
-        for i in n..5 {
-            if self.operand(i) != 0 {
-                return true;
-            }
-        }
-        false
+        self.operands().iter().skip(n).any(|x| *x != 0)
     }
 }
 
 impl Parts {
     // Whether every part is below `n`.
     fn all_below(self, n: usize) -> bool
-        ensures { result ≡ all (λ k. nat_lt k n) (parts self) }
+        ensures { result ≡ list_all (λ k. nat_lt k n) (parts self) }
     {
-        for i in 0..PARTS {
-            let Some(k) = self.get(i) else {
-                return true;
-            };
-            if usize::from(k) >= n {
-                return false;
-            }
-        }
-        true
+        self.as_slice().iter().all(|k| usize::from(*k) < n)
     }
 }
 
@@ -112,7 +100,7 @@ impl Tables {
         match arity {
             Arity::Name | Arity::Data | Arity::Tick => true,
             Arity::Tuple(parts) => parts.all_below(self.arities.len()),
-            Arity::Binding { names, body } => self.has_arity(names) && self.has_arity(body),
+            Arity::Binding { names, body } => has(&self.arities, names) && has(&self.arities, body),
         }
     }
 
@@ -120,15 +108,18 @@ impl Tables {
         ensures { result ≡ present (sheet_in self.now) (Item.Row row) }
     {
         match row {
-            Row::Variable(v) => self.has_variable(v),
-            Row::Apply { constructor, row } => usize::from(constructor) < self.constructors.len()
-                && self.has_row(row),
-            Row::Tuple { arity, rows } => self.has_arity(arity) && rows.all_below(self.rows.len()),
+            Row::Variable(v) => has(&self.variables, v),
+            Row::Apply { constructor, row } => has(&self.constructors, constructor)
+                && has(&self.rows, row),
+            Row::Tuple { arity, rows } => has(&self.arities, arity)
+                && rows.all_below(self.rows.len()),
             Row::Bind {
                 arity,
                 variable,
                 row,
-            } => { self.has_arity(arity) && self.has_variable(variable) && self.has_row(row) }
+            } => has(&self.arities, arity)
+                && has(&self.variables, variable)
+                && has(&self.rows, row),
         }
     }
 
@@ -138,8 +129,8 @@ impl Tables {
     {
         match item {
             Item::Arity(arity) => self.is_arity_present(arity),
-            Item::Constructor(c) => self.has_arity(c.makes) && self.has_arity(c.takes),
-            Item::Variable(a) => self.has_arity(a),
+            Item::Constructor(c) => has(&self.arities, c.makes) && has(&self.arities, c.takes),
+            Item::Variable(a) => has(&self.arities, a),
             Item::Row(row) => self.is_row_present(row),
         }
     }
@@ -149,13 +140,10 @@ impl Tables {
     {
         match row {
             Row::Variable(_) => true,
-            Row::Apply { constructor, row } => match self
+            Row::Apply { constructor, row } => self
                 .constructors
                 .get(usize::from(constructor))
-            {
-                Some(c) => self.row_has(c.takes, row),
-                None => false,
-            },
+                .is_some_and(|c| self.row_has(c.takes, row)),
             Row::Tuple { arity, rows } => match self.arities.get(usize::from(arity)) {
                 Some(Arity::Tuple(parts)) => self.rows_have(parts, rows),
                 _ => false,

@@ -1,5 +1,6 @@
 //! A sheet, entry by entry.
-ghost use Rattle.std.specs.Prelude.{◌≡◌, false};
+ghost use Rattle.std.specs.Prelude.{◌≡◌, false, MatchResult};
+ghost use Rattle.std.specs.Option.{ok_or};
 ghost use Rattle.sheet.specs.Sheets.{item as item_in, item_by, operand_parts, declare as declared};
 ghost use Rattle.sheet.specs.Faults.{item_fault, crowded};
 ghost use Rattle.sheet.specs.Tables.{sheet_in, Admits, Loaded};
@@ -17,10 +18,7 @@ fn tuple_parts(len: u8, e: Entry) -> Parts
 {
     Parts {
         len,
-        a: e.b,
-        b: e.c,
-        c: e.d,
-        d: e.e,
+        numbers: [e.b, e.c, e.d, e.e],
     }
 }
 
@@ -60,32 +58,32 @@ impl Tables {
         }
     }
 
-    // What the entry declares; nothing where its byte is no command.
-    fn item(&self, e: Entry) -> Option<Item>
-        ensures { result ≡ item_in (sheet_in self.now) e }
+    // What the entry declares; refused where its byte is no command.
+    fn item(&self, e: Entry) -> Result<Item, Reason>
+        ensures { result ≡ ok_or (item_in (sheet_in self.now) e) Reason.Unknown }
     {
-        match Command::of(e.command) {
-            Some(command) => Some(self.item_by(e, command)),
-            None => None,
-        }
+        let command = Command::try_from(e.command)?;
+        Ok(self.item_by(e, command))
     }
 
-    // What is wrong with an item of the entry; nothing where it may be declared.
-    fn item_fault(&self, e: Entry, item: Item) -> Option<Reason>
-        ensures { result ≡ item_fault (sheet_in self.now) e item }
+    // Whether the item of the entry may be declared, or else what is wrong with it.
+    fn allows(&self, e: Entry, item: Item) -> Result<(), Reason>
+        ensures { MatchResult result
+            (λ _. item_fault (sheet_in self.now) e item ≡ None)
+            (λ x. item_fault (sheet_in self.now) e item ≡ Some x) }
     {
         if self.is_behind(item) {
-            Some(Reason::Order)
+            Err(Reason::Order)
         } else if self.is_crowded(item) {
-            Some(Reason::Crowded)
+            Err(Reason::Crowded)
         } else if !self.is_present(item) {
-            Some(Reason::Absent)
+            Err(Reason::Absent)
         } else if !self.is_well_sorted(item) {
-            Some(Reason::IllSorted)
+            Err(Reason::IllSorted)
         } else if e.nonzero_past(item.used()) {
-            Some(Reason::Padding)
+            Err(Reason::Padding)
         } else {
-            None
+            Ok(())
         }
     }
 
@@ -107,16 +105,10 @@ impl Tables {
     fn admit(&mut self, e: Entry) -> Result<(), Reason>
         ensures { Admits (sheet_in self.old) e result (sheet_in self.new) }
     {
-        let Some(item) = self.item(e) else {
-            return Err(Reason::Unknown);
-        };
-        match self.item_fault(e, item) {
-            Some(reason) => Err(reason),
-            None => {
-                self.declare(item);
-                Ok(())
-            }
-        }
+        let item = self.item(e)?;
+        self.allows(e, item)?;
+        self.declare(item);
+        Ok(())
     }
 
     /// The sheet that a source tells, or why it is not lawful.

@@ -7,7 +7,7 @@ ghost use Rattle.sheet.specs.Tables.{sheet_in, LowestBarrenIn};
 
 use crate::item::{Arity, Constructor, Parts};
 use crate::tables::marks::Marks;
-use crate::tables::{ARITIES, PARTS, Tables};
+use crate::tables::{ARITIES, Tables};
 
 impl Marks {
     // The empty set.
@@ -23,7 +23,7 @@ impl Marks {
     fn has(&self, a: usize) -> bool
         ensures { result ≡ marked self.now a }
     {
-        a < ARITIES && self.at[a]
+        self.at.get(a).copied().unwrap_or(false)
     }
 
     // Whether the constructor makes a tree of arity `a` of one of an arity in the set.
@@ -46,15 +46,7 @@ impl Marks {
 fn all_in(marks: &Marks, ps: Parts) -> bool
     ensures { result ≡ all_marked marks.now (parts ps) }
 {
-    for i in 0..PARTS {
-        let Some(a) = ps.get(i) else {
-            return true;
-        };
-        if !marks.has(usize::from(a)) {
-            return false;
-        }
-    }
-    true
+    ps.as_slice().iter().all(|a| marks.has(usize::from(*a)))
 }
 
 impl Tables {
@@ -62,15 +54,10 @@ impl Tables {
     fn makes_one(&self, marks: &Marks, a: usize) -> bool
         ensures { result ≡ makes_one marks.now a (sheet_in self.now).constructors }
     {
-        for k in 0..self.constructors.len() {
-            let Some(c) = self.constructors.get(k) else {
-                return false;
-            };
-            if marks.serves(c, a) {
-                return true;
-            }
-        }
-        false
+        self.constructors
+            .as_slice()
+            .iter()
+            .any(|c| marks.serves(*c, a))
     }
 
     // Whether arity `a` has a tree if those of the set have.
@@ -115,11 +102,6 @@ impl Tables {
         ensures { LowestBarrenIn (sheet_in self.now) result }
     {
         let marks = self.inhabited();
-        for a in 0..ARITIES {
-            if self.names_data(a) && !marks.has(a) {
-                return Some(a);
-            }
-        }
-        None
+        (0..ARITIES).find(|a| self.names_data(*a) && !marks.has(*a))
     }
 }

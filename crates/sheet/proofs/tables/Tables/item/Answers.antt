@@ -1,13 +1,11 @@
-use Rattle.std.proofs.Common.{Some, ap, ◌∙◌}
-use Rattle.sheet.specs.Sheets.{item, item_of}
-use Rattle.sheet.specs.Tables.{sheet_in}
+use Rattle.std.proofs.Common.{rules}
+use Rattle.sheet.specs.Sheets.{item}
 use Rattle.sheet.proofs.tables.Tables.item.Goals as goal
 
-pub returns-in-Some : goal.returns-in-Some
+pub returns-in_err-command : goal.returns-in_err-command
 unfolding item
-returns-in-Some c =
-    ap (λ i. Some i) c.item_by.ensures ∙ ap (item_of (sheet_in c.args.self.now) c.args.e) c.in-Some.ensures
+returns-in_err-command c = search rules
 
-pub returns-in-None : goal.returns-in-None
+pub returns : goal.returns
 unfolding item
-returns-in-None c = ap (item_of (sheet_in c.args.self.now) c.args.e) c.in-None.ensures
+returns c = search rules
