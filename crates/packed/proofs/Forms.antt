@@ -3,12 +3,12 @@ use Rattle.std.proofs.Common.{◌≡◌, ℕ, zero, suc, ◌+◌, ◌-◌, ◌�
 use Rattle.std.proofs.lemmas.List.{append_assoc, drop-drop, drop_at, take_at, length-take-le}
 use Rattle.std.proofs.lemmas.List.Prefix.{front_rest}
 use Rattle.std.proofs.lemmas.Bool.{eqb-true, and_parts, not-false}
-use Rattle.std.specs.List.{slice_get, flat_map}
+use Rattle.std.specs.List.{slice_get, flat_map, list_all}
 use Rattle.sheet.specs.declared.entry.Entry.{Entry}
 use Rattle.sheet.specs.declared.command.Command.{Command}
 use Rattle.sheet.specs.declared.command.Command.TheVariants.{NameArity, DataArity, TickArity, TupleArity, BindingArity, Constructor, Variable, VariableRow, ApplyRow, TupleRow, BindRow}
 use Rattle.sheet.specs.Commands.{command, operands}
-use Rattle.sheet.specs.Operands.{all, operand_list, nonzero_past, entry_of}
+use Rattle.sheet.specs.Operands.{operand_list, nonzero_past, entry_of}
 use Rattle.sheet.specs.Sheets.{Sheet, item, item_of, item_by, sheet_of}
 use Rattle.sheet.specs.Faults.{padded, fault_of, fault}
 use Rattle.sheet.specs.Checks.{Lawful}
@@ -75,7 +75,7 @@ pub record Spelt (e : Entry) : Type 0 where
   pub spelt : entry_of e.command (take (operands is) (operand_list e)) ≡ e
 
 -- zeros past the first n need no bytes
-zeros : (n : ℕ) (xs : List ℕ) (i : ℕ) → all (λ x. eqb x 0) (drop n xs) ≡ true → get_or (take n xs) i 0 ≡ get_or xs i 0
+zeros : (n : ℕ) (xs : List ℕ) (i : ℕ) → list_all (λ x. eqb x 0) (drop n xs) ≡ true → get_or (take n xs) i 0 ≡ get_or xs i 0
 zeros zero [] i nil = refl
 zeros zero (x ∷ xs) zero nil = sym (eqb-true x 0 (and_parts _ _ nil).0)
 zeros zero (x ∷ xs) (suc i) nil = zeros zero xs i (and_parts _ _ nil).1

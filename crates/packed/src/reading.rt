@@ -16,7 +16,7 @@ fn ending(place: usize, rest: &[u8]) -> Result<(), Refusal>
     let (reason, place) = match rest {
         [END] => return Ok(()),
         [END, ..] => (Reason::Tail, place + 1),
-        [byte, ..] if Command::of(*byte).is_none() => (Reason::Unknown, place),
+        [byte, ..] if Command::try_from(*byte).is_err() => (Reason::Unknown, place),
         _ => (Reason::Cut, place),
     };
     Err(Refusal { reason, place })

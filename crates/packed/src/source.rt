@@ -32,7 +32,7 @@ pub(crate) fn first_command<'a>(bytes: &'a [u8]) -> Option<(Entry, &'a [u8])>
     ensures { MatchOption result (packed bytes.now ≡ []) (λ front. FrontWhole bytes.now front.0 front.1.now) }
 {
     let (byte, after) = bytes.split_first()?;
-    let command = Command::of(*byte)?;
+    let command = Command::try_from(*byte).ok()?;
     let (given, rest) = after.split_at_checked(command.operands())?;
     Some((entry_of(*byte, given), rest))
 }

@@ -12,11 +12,10 @@ use sheet::entry::Entry;
 use sheet::source::{Entries, SheetSource};
 
 // How many bytes the entry takes.
-#[tactic(auto, using(crate::proofs::Packing::length_bytes))]
 fn width(entry: Entry) -> usize
     ensures { result ≡ length (bytes_of entry) }
 {
-    1 + Command::of(entry.command).map_or(0, Command::operands)
+    1 + Command::try_from(entry.command).map_or(0, Command::operands)
 }
 
 // Whether the entries take fewer than `room` bytes.
