@@ -28,6 +28,7 @@ fn entry_of(byte: u8, given: &[u8]) -> Entry
 
 // The whole command at the front, and the bytes after it. The end byte is no command.
 #[tactic(auto, unfolding(crate::specs::Packed::packed))]
+#[inline(always)]
 pub(crate) fn first_command<'a>(bytes: &'a [u8]) -> Option<(Entry, &'a [u8])>
     ensures { MatchOption result (packed bytes.now ≡ []) (λ front. FrontWhole bytes.now front.0 front.1.now) }
 {
