@@ -1,14 +1,13 @@
 -- The check, entry by entry.
-use Rattle.std.proofs.Common.{◌≡◌, ℕ, zero, suc, ◌+◌, ◌<◌, ◌≤◌, true, List, [], ◌∷◌, ◌++◌, length, take, drop, Some, None, Ok, Err, Option, Result, sym, refl, ap, ◌∙◌, subst, inl, inr, add-one, arith, below_more}
+use Rattle.std.proofs.Common.{◌≡◌, ℕ, zero, suc, ◌+◌, ◌<◌, ◌≤◌, true, List, [], ◌∷◌, ◌++◌, length, take, drop, Some, None, Ok, Err, Result, sym, refl, ap, ◌∙◌, subst, inl, inr, add-one, arith, below_more}
 use Rattle.std.specs.List.{slice_get}
-use Rattle.std.proofs.lemmas.List.{length-drop, take_all}
-use Rattle.std.proofs.lemmas.Option.{same_Some, slice_get_within}
+use Rattle.std.proofs.lemmas.List.{length-drop, take_all, take_more}
+use Rattle.std.proofs.lemmas.Option.{same_Some, slice_get_within, get_or_from_slice_get, none-some}
 use Rattle.std.proofs.lemmas.Bool.{cases_order, false≢true}
 use Rattle.refusals.specs.declared.Reason.{Reason}
 use Rattle.refusals.specs.declared.Reason.TheVariants.{Barren as BarrenReason}
 use Rattle.refusals.specs.declared.Refusal.{Refusal}
 use Rattle.sheet.specs.declared.entry.Entry.{Entry}
-use Rattle.std.specs.Option.{ok_or}
 use Rattle.refusals.specs.declared.Reason.TheVariants.{Unknown}
 use Rattle.sheet.specs.declared.item.Item.{Item}
 use Rattle.sheet.specs.Sheets.{Sheet, blank, item, declare, declare_some, extend, extend_all, sheet_of}
@@ -21,15 +20,13 @@ extend_all_push : (S : Sheet) (es : List Entry) (e : Entry) → extend_all S (es
 extend_all_push S [] e = refl
 extend_all_push S (x ∷ es) e = extend_all_push (extend S x) es e
 
-take_told : (es : List Entry) (k : ℕ) (e : Entry) → slice_get es k ≡ Some e → take (suc k) es ≡ take k es ++ e ∷ []
-take_told [] k e is = let z : ◌≡◌ {A = ℕ} 0 1 = cc in absurd (omega arith)
-take_told (x ∷ es) zero e is = let same : x ≡ e = cc in ap (λ y. y ∷ []) same
-take_told (x ∷ es) (suc k) e is = ap (λ xs. x ∷ xs) (take_told es k e is)
-
 -- the sheet of one entry more
 pub sheet_more : (es : List Entry) (k : ℕ) (e : Entry) → slice_get es k ≡ Some e → sheet_of (take (k + 1) es) ≡ extend (sheet_of (take k es)) e
 unfolding sheet_of
-sheet_more es k e is = rw add-one (ap (extend_all blank) (take_told es k e is) ∙ extend_all_push blank (take k es) e)
+sheet_more es k e is =
+    let taken = take_more es k e (slice_get_within es k e is) in
+    let told = ap (λ x. take k es ++ x ∷ []) (get_or_from_slice_get es k e e is) in
+    ap (extend_all blank) (taken ∙ told) ∙ extend_all_push blank (take k es) e
 
 -- how far a check has come: the entries before k are faultless, S is their sheet, and the others are left
 pub record Passed (es : List Entry) (k : ℕ) (S : Sheet) (left : List Entry) : Type 0 where
@@ -100,16 +97,13 @@ module _ (es : List Entry) (S : Sheet) (all_passed : PassedAll es S) where
   pub lawful : LowestBarrenIn S None → Lawful es
   lawful fruitful = record { faultless = all_passed.faultless; fruitful = subst (λ Z. LowestBarrenIn Z None) all_passed.sheet fruitful }
 
-none_some : {X : Type 0} (x : X) (o : Option X) → o ≡ None → o ≡ Some x → ⊥
-none_some x o p q = let z : ◌≡◌ {A = ℕ} 0 1 = cc in omega arith
-
 -- a first fault is a fault
 faulty_entry : (es : List Entry) (f : Refusal) → FirstFault es f → Faultless es → ⊥
-faulty_entry es f a clean = none_some f.reason _ (clean f.place a.entry a.here) a.faulty
+faulty_entry es f a clean = none-some f.reason (sym (clean f.place a.entry a.here) ∙ a.faulty)
 
 -- two first faults stand at one place, and are one
 not_before : (es : List Entry) (f g : Refusal) → FirstFault es f → FirstFault es g → f.place < g.place → ⊥
-not_before es f g a b lt = none_some f.reason _ (b.before f.place a.entry lt a.here) a.faulty
+not_before es f g a b lt = none-some f.reason (sym (b.before f.place a.entry lt a.here) ∙ a.faulty)
 
 same_fault : (es : List Entry) (f g : Refusal) → FirstFault es f → FirstFault es g → f.place ≡ g.place → f ≡ g
 same_fault es f g a b e =
@@ -163,23 +157,15 @@ pub refused : (S T : Sheet) (e : Entry) (r : Result Unit Reason) (x : Reason) �
 refused S T e r x is h = (subst (λ v. Admits S e v T) is h).0
 
 module _ (S : Sheet) (e : Entry) where
-  unknown_of : (o : Option Item) (x : Reason) → ok_or o Unknown ≡ Err x → fault_of S e o ≡ Some x
-  unknown_of None x is = let same : Unknown ≡ x = cc in ap (λ y. Some y) same
-  unknown_of (Some i) x is = let z : ◌≡◌ {A = ℕ} 0 1 = cc in absurd (omega arith)
-
   -- an entry whose byte is no command
-  pub unknown_fault : (x : Reason) → ok_or (item S e) Unknown ≡ Err x → fault S e ≡ Some x
+  pub unknown_fault : item S e ≡ None → fault S e ≡ Some Unknown
   unfolding fault
-  unknown_fault x is = unknown_of (item S e) x is
-
-  known_of : (o : Option Item) (i : Item) → ok_or o Unknown ≡ Ok i → (fault_of S e o ≡ item_fault S e i) × (declare_some S o ≡ declare S i)
-  known_of None i is = let z : ◌≡◌ {A = ℕ} 0 1 = cc in absurd (omega arith)
-  known_of (Some j) i is = let same : j ≡ i = cc in (ap (item_fault S e) same, ap (declare S) same)
+  unknown_fault is = ap (fault_of S e) is
 
   -- and one that declares i
-  pub known_fault : (i : Item) → ok_or (item S e) Unknown ≡ Ok i → (fault S e ≡ item_fault S e i) × (extend S e ≡ declare S i)
+  pub known_fault : (i : Item) → item S e ≡ Some i → (fault S e ≡ item_fault S e i) × (extend S e ≡ declare S i)
   unfolding fault
-  known_fault i is = known_of (item S e) i is
+  known_fault i is = (ap (fault_of S e) is, ap (declare_some S) is)
 
   pub declined : (r : Result Unit Reason) (x : Reason) → r ≡ Err x → fault S e ≡ Some x → Admits S e r S
   declined r x is faulty = subst (λ v. Admits S e v S) (sym is) (faulty, refl)

@@ -24,7 +24,7 @@ use Rattle.sheet.specs.Sheets.{Sheet, blank, item, item_of, item_by, width_of, d
 use Rattle.sheet.specs.Faults.{some, is_name, holds, names_names, has, behind, crowded, present, well_sorted, padded, item_fault, fault_of, fault, arity_of, arity_of_some, row_arity, row_has, rows_have, fits_tuple, fits_binding}
 use Rattle.sheet.specs.Checks.{Faultless}
 use Rattle.sheet.specs.WellFormed.{Every, Each, WithinLimits, ArityFits, ConstructorFits, VariableFits, RowHas, RowFits, WellFormed, LawfulIsWellFormed}
-use Rattle.std.proofs.lemmas.Option.{slice_get_within}
+use Rattle.std.proofs.lemmas.Option.{slice_get_within, slice_get_cases, none-some}
 use Rattle.sheet.proofs.Growing.{data_only}
 use Rattle.sheet.proofs.Checking.{sheet_more}
 
@@ -44,9 +44,7 @@ module _ {X : Type 0} where
 
   -- k names an element
   there : (xs : List X) (k : ℕ) → k < length xs → (x : X) × (slice_get xs k ≡ Some x)
-  there [] k below = absurd (omega arith)
-  there (x ∷ xs) zero below = (x, refl)
-  there (x ∷ xs) (suc k) below = there xs k (omega arith)
+  there xs k below = elim (slice_get_cases xs k).1 [ inl h ↦ (h.0, h.2) | inr h ↦ absurd (omega arith) ]
 
 -- what the tests tell
 name_only : (o : Option Arity) → holds is_name o ≡ true → o ≡ Some Name
@@ -265,6 +263,20 @@ none_yet [] h = refl
 none_yet (x ∷ xs) h = absurd (false≢true (sym h))
 
 module _ (S : Sheet) (so_far : WellFormed S) where
+  -- where the arities and variables stay
+  others_within : (cs : List Constructor) (rs : List Row) → length cs ≤ most_constructors → length rs ≤ most_rows
+      → WithinLimits (record { arities = S.arities; constructors = cs; variables = S.variables; rows = rs })
+  others_within cs rs few_cs few_rs =
+      let l = so_far.limits in
+      record {
+        arities = l.arities;
+        name_arities = l.name_arities;
+        constructors = few_cs;
+        variables = l.variables;
+        name_variables = l.name_variables;
+        rows = few_rs;
+      }
+
   limits : (e : Entry) (i : Item) → Clean S e i → WithinLimits (declare S i)
   limits e (an_arity x) c =
       let room = or_parts (leb most_arities (length S.arities)) _ c.has_room in
@@ -283,14 +295,7 @@ module _ (S : Sheet) (so_far : WellFormed S) where
       }
   limits e (a_constructor x) c =
       let less = leb-false most_constructors (length S.constructors) c.has_room in
-      record {
-        arities = so_far.limits.arities;
-        name_arities = so_far.limits.name_arities;
-        constructors = omega (arith, length_push S.constructors x);
-        variables = so_far.limits.variables;
-        name_variables = so_far.limits.name_variables;
-        rows = so_far.limits.rows;
-      }
+      others_within (S.constructors ++ x ∷ []) S.rows (omega (arith, length_push S.constructors x)) so_far.limits.rows
   limits e (a_variable a) c =
       let room = or_parts (leb most_variables (length S.variables)) _ c.has_room in
       let less = leb-false most_variables (length S.variables) room.0 in
@@ -306,14 +311,7 @@ module _ (S : Sheet) (so_far : WellFormed S) where
       }
   limits e (a_row x) c =
       let less = leb-false most_rows (length S.rows) c.has_room in
-      record {
-        arities = so_far.limits.arities;
-        name_arities = so_far.limits.name_arities;
-        constructors = so_far.limits.constructors;
-        variables = so_far.limits.variables;
-        name_variables = so_far.limits.name_variables;
-        rows = omega (arith, length_push S.rows x);
-      }
+      others_within S.constructors (S.rows ++ x ∷ []) so_far.limits.constructors (omega (arith, length_push S.rows x))
 
   arities_fit : (i : Item) → ItemFits S i → (a : ℕ) (y : Arity) → slice_get (declare S i).arities a ≡ Some y → ArityFits (declare S i) a y
   arities_fit (an_arity x) fits a y is =
@@ -366,17 +364,14 @@ extended_well : (S : Sheet) (e : Entry) → WellFormed S → fault S e ≡ None 
 unfolding fault item
 extended_well S e so_far none = extended_by S e (command e.command) so_far none
 
-nothing_told : {X : Type 0} (x : X) → ◌≡◌ {A = Option X} None (Some x) → ⊥
-nothing_told x is = let z : ◌≡◌ {A = ℕ} 0 1 = cc in omega arith
-
 blank_well : WellFormed blank
 blank_well =
     record {
       limits = record { arities = omega arith; name_arities = omega arith; constructors = omega arith; variables = omega arith; name_variables = omega arith; rows = omega arith };
-      arities = λ a x is. absurd (nothing_told x is);
-      constructors = λ c x is. absurd (nothing_told x is);
-      variables = λ v a is. absurd (nothing_told a is);
-      rows = λ r x is. absurd (nothing_told x is);
+      arities = λ a x is. absurd (none-some x is);
+      constructors = λ c x is. absurd (none-some x is);
+      variables = λ v a is. absurd (none-some a is);
+      rows = λ r x is. absurd (none-some x is);
     }
 
 front_well : (es : List Entry) → Faultless es → (k : ℕ) → k ≤ length es → WellFormed (sheet_of (take k es))

@@ -2,7 +2,7 @@
 use Rattle.std.proofs.Common.{◌≡◌, ℕ, zero, suc, ◌+◌, ◌<◌, ◌≤◌, Bool, true, false, cond, not, ◌&&◌, eqb, ◌⊎◌, List, [], ◌∷◌, length, get_or, set, Some, None, Option, sym, refl, ap, ◌∙◌, subst, inl, inr, arith, lit<, below_more}
 use Rattle.std.specs.List.{slice_get, list_all}
 use Rattle.std.proofs.lemmas.List.{get_or-set_other}
-use Rattle.std.proofs.lemmas.Bool.{both_ways, not-true, not-false, and_parts, and_from, or_cases, or_left, or_right, eqb-true, eq-eqb, false≢true, cases_eq}
+use Rattle.std.proofs.lemmas.Bool.{both_ways, not-true, not-false, and_parts, and_from, eqb-true, eq-eqb, false≢true, cases_eq}
 use Rattle.trees.specs.Trees.{Tree, name, tick, con, unit, pair, bind}
 use Rattle.sheet.specs.declared.tables.marks.Marks.{Marks}
 use Rattle.sheet.specs.declared.item.Arity.{Arity}
@@ -15,37 +15,22 @@ use Rattle.sheet.specs.Faults.{holds, is_data}
 use Rattle.std.specs.Option.{MatchOption}
 use Rattle.sheet.specs.Tables.{LowestBarrenIn}
 use Rattle.sheet.specs.Arities.{HasArity, HasArities, Inhabited}
-use Rattle.sheet.specs.Growth.{marked, makes_one, grows, grows_as, Sound, Closed, left_out}
-use Rattle.std.proofs.lemmas.Option.{slice_get_within}
+use Rattle.sheet.specs.Growth.{marked, serves, makes_one, grows, grows_as, Sound, Closed, left_out}
+use Rattle.std.proofs.lemmas.Option.{slice_get_within, slice_get-get_or, get_or_from_slice_get}
+use Rattle.std.proofs.lemmas.List.Folds.{Any-from_list_any, list_any_at}
 
--- a constructor that serves
-pub record Maker (m : Marks) (a : ℕ) (xs : List Constructor) : Type 0 where
-  pub number : ℕ
-  pub is : Constructor
-  pub here : slice_get xs number ≡ Some is
-  pub makes_a : is.makes ≡ a
-  pub takes_marked : marked m is.takes ≡ true
-
-maker_later : (m : Marks) (a : ℕ) (x : Constructor) (xs : List Constructor) → Maker m a xs → Maker m a (x ∷ xs)
-maker_later m a x xs k =
-    record { number = suc k.number; is = k.is; here = k.here; makes_a = k.makes_a; takes_marked = k.takes_marked }
-
-maker : (m : Marks) (a : ℕ) (xs : List Constructor) → makes_one m a xs ≡ true → Maker m a xs
-maker m a [] one = absurd (false≢true one)
-maker m a (x ∷ xs) one =
-    elim (or_cases (eqb x.makes a && marked m x.takes) (makes_one m a xs) one) [
-      | inl h ↦ let p = and_parts (eqb x.makes a) (marked m x.takes) h in
-          record { number = 0; is = x; here = refl; makes_a = eqb-true x.makes a p.0; takes_marked = p.1 }
-      | inr h ↦ maker_later m a x xs (maker m a xs h)
-    ]
+-- a constructor that serves, and its number
+maker : (m : Marks) (a : ℕ) (xs : List Constructor) → makes_one m a xs ≡ true
+    → (c : ℕ) × (x : Constructor) × (slice_get xs c ≡ Some x) × (x.makes ≡ a) × (marked m x.takes ≡ true)
+maker m a xs one =
+    let (c, x, below, at, serves_a) = Any-from_list_any (serves m a) xs one in
+    let p = and_parts (eqb x.makes a) (marked m x.takes) serves_a in
+    (c, x, slice_get-get_or xs c x below ∙ ap (λ y. Some y) at, eqb-true x.makes a p.0, p.1)
 
 made_by : (m : Marks) (a : ℕ) (xs : List Constructor) (c : ℕ) (x : Constructor) → slice_get xs c ≡ Some x → x.makes ≡ a → marked m x.takes ≡ true → makes_one m a xs ≡ true
-made_by m a [] c x is p q = let z : ◌≡◌ {A = ℕ} 0 1 = cc in absurd (omega arith)
-made_by m a (y ∷ xs) zero x is p q =
-    let same : y ≡ x = cc in
-    or_left (eqb y.makes a && marked m y.takes) (makes_one m a xs)
-    (and_from (eqb y.makes a) (marked m y.takes) (eq-eqb y.makes a (ap (λ z. z.makes) same ∙ p)) (ap (λ z. marked m z.takes) same ∙ q))
-made_by m a (y ∷ xs) (suc c) x is p q = or_right (eqb y.makes a && marked m y.takes) (makes_one m a xs) (made_by m a xs c x is p q)
+made_by m a xs c x is p q =
+    let here = get_or_from_slice_get xs c x x is in
+    list_any_at (serves m a) xs c x (slice_get_within xs c x is) (ap (serves m a) here ∙ and_from (eqb x.makes a) (marked m x.takes) (eq-eqb x.makes a p) q)
 
 -- a tuple of trees of marked arities
 tuple_tree : (S : Sheet) (m : Marks) → Sound S m → (ps : List ℕ) → list_all (marked m) ps ≡ true → (t : Tree) × HasArities S ps t
@@ -71,9 +56,9 @@ module _ (S : Sheet) (m : Marks) where
   grown sound a None is h = absurd (false≢true h)
   grown sound a (Some Name) is h = (name (record { arity = a; number = 0 }), (is, refl))
   grown sound a (Some Data) is h =
-      let k = maker m a S.constructors h in
-      let (t, has) = sound k.is.takes k.takes_marked in
-      (con k.number t, (is, (k.is, k.here, k.makes_a, has)))
+      let (c, x, here, makes_a, takes) = maker m a S.constructors h in
+      let (t, has) = sound x.takes takes in
+      (con c t, (is, (x, here, makes_a, has)))
   grown sound a (Some Tick) is h = (tick 0, (is, lit< tt))
   grown sound a (Some (Tuple ps)) is h =
       let (t, have) = tuple_tree S m sound (parts ps) h in

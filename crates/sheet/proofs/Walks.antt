@@ -5,7 +5,7 @@ use Rattle.std.specs.List.{slice_get, list_all, list_any, zip}
 use Rattle.std.proofs.lemmas.Bool.{and_right}
 use Rattle.sheet.specs.Sheets.{Sheet}
 use Rattle.sheet.specs.Faults.{row_has, rows_have}
-use Rattle.std.proofs.lemmas.List.{drop_all, drop_more}
+use Rattle.std.proofs.lemmas.List.{drop_more}
 use Rattle.std.proofs.lemmas.Option.{slice_get_within, get_or_from_slice_get}
 
 module _ {X : Type 0} where
@@ -27,9 +27,6 @@ module _ {X : Type 0} where
   untold [] k is = omega arith
   untold (x ∷ xs) zero is = let z : ◌≡◌ {A = ℕ} 0 1 = cc in absurd (omega arith)
   untold (x ∷ xs) (suc k) is = let h = untold xs k is in omega arith
-
-  pub untold_rest : (xs : List X) (k : ℕ) → slice_get xs k ≡ None → drop k xs ≡ []
-  untold_rest xs k is = drop_all k xs (untold xs k is)
 
 any_not_all : (b : Bool) (xs : List ℕ) → (not b || not (list_all (λ x. eqb x 0) xs)) ≡ not (b && list_all (λ x. eqb x 0) xs)
 any_not_all true xs = refl

@@ -1,6 +1,9 @@
 -- command b    the command of a byte, where it is one
+-- Names b r    r is that command, or says that the byte is unknown
 -- operands c   how many operand bytes follow it in packed form
-use Rattle.std.specs.Prelude.{ℕ, cond, Some, None, Option, ◌==◌}
+use Rattle.std.specs.Prelude.{◌≡◌, ℕ, cond, Some, None, Option, Ok, Err, Result, ◌==◌}
+use Rattle.refusals.specs.declared.Reason.{Reason}
+use Rattle.refusals.specs.declared.Reason.TheVariants.{Unknown}
 use Rattle.sheet.specs.declared.command.Command.{Command}
 use Rattle.sheet.specs.declared.command.Command.TheVariants.{NameArity, DataArity, TickArity, TupleArity, BindingArity, Constructor, Variable, VariableRow, ApplyRow, TupleRow, BindRow}
 
@@ -17,6 +20,11 @@ command b =
     (cond (b == 0x31) (Some ApplyRow)
     (cond (b == 0x32) (Some TupleRow)
     (cond (b == 0x33) (Some BindRow) None))))))))))
+
+-- what reading a byte as a command answers
+abbrev pub Names : ℕ → Result Command Reason → Type 0
+Names b (Ok c) = command b ≡ Some c
+Names b (Err x) = (command b ≡ None) × (x ≡ Unknown)
 
 abbrev pub operands : Command → ℕ
 operands NameArity = 0

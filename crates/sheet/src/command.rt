@@ -1,8 +1,6 @@
 //! The commands of a sheet and their bytes.
 ghost use Rattle.std.specs.Prelude.{◌≡◌};
-ghost use Rattle.std.specs.Option.{ok_or};
-ghost use Rattle.refusals.specs.declared.Reason.TheVariants.{Unknown};
-ghost use Rattle.sheet.specs.Commands.{command, operands};
+ghost use Rattle.sheet.specs.Commands.{operands, Names};
 
 use refusals::Reason;
 
@@ -26,8 +24,10 @@ pub enum Command {
 impl TryFrom<u8> for Command {
     type Error = Reason;
 
-    ghost try_from_gives = { λ byte r. r ≡ ok_or (command byte) Unknown };
+    ghost try_from_gives = { Names };
 
+    // Walks over bytes ask it at every command.
+    #[inline]
     fn try_from(byte: u8) -> Result<Command, Reason> {
         match byte {
             0x01 => Ok(Command::NameArity),

@@ -1,6 +1,5 @@
 //! A sheet, entry by entry.
 ghost use Rattle.std.specs.Prelude.{◌≡◌, false, MatchResult};
-ghost use Rattle.std.specs.Option.{ok_or};
 ghost use Rattle.sheet.specs.Sheets.{item as item_in, item_by, operand_parts, declare as declared};
 ghost use Rattle.sheet.specs.Faults.{item_fault, crowded};
 ghost use Rattle.sheet.specs.Tables.{sheet_in, Admits, Loaded};
@@ -60,7 +59,9 @@ impl Tables {
 
     // What the entry declares; refused where its byte is no command.
     fn item(&self, e: Entry) -> Result<Item, Reason>
-        ensures { result ≡ ok_or (item_in (sheet_in self.now) e) Reason.Unknown }
+        ensures { MatchResult result
+            (λ i. item_in (sheet_in self.now) e ≡ Some i)
+            (λ x. (item_in (sheet_in self.now) e ≡ None) × (x ≡ Reason.Unknown)) }
     {
         let command = Command::try_from(e.command)?;
         Ok(self.item_by(e, command))
@@ -92,13 +93,12 @@ impl Tables {
         requires { crowded (sheet_in self.old) item ≡ false }
         ensures { sheet_in self.new ≡ declared (sheet_in self.old) item }
     {
-        // There is room, so each of these answers true.
-        let _ = match item {
-            Item::Arity(arity) => self.arities.push(arity).is_ok(),
-            Item::Constructor(c) => self.constructors.push(c).is_ok(),
-            Item::Variable(a) => self.variables.push(a).is_ok(),
-            Item::Row(row) => self.rows.push(row).is_ok(),
-        };
+        match item {
+            Item::Arity(arity) => self.arities.push(arity).unwrap(),
+            Item::Constructor(c) => self.constructors.push(c).unwrap(),
+            Item::Variable(a) => self.variables.push(a).unwrap(),
+            Item::Row(row) => self.rows.push(row).unwrap(),
+        }
     }
 
     // The entry joins the sheet, or is declined and the sheet is as it was.

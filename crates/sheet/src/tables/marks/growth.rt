@@ -78,6 +78,7 @@ impl Tables {
         ensures { Sweeps (sheet_in self.now) marks.old result marks.new }
     {
         let mut grew = false;
+        // By number: the set changes while it is read.
         for a in 0..ARITIES {
             if !marks.has(a) && self.grows(marks, a) {
                 marks.add(a);
