@@ -1,12 +1,9 @@
 -- Packed bytes, one command at a time.
-use Rattle.std.proofs.Common.{◌≡◌, ℕ, zero, suc, ◌+◌, ◌<◌, ◌≤◌, List, [], ◌∷◌, ◌++◌, length, take, drop, Some, None, Option, Result, sym, refl, ap, ◌∙◌, arith, lit≤, length-append, take-append-drop, length-take}
+use Rattle.std.proofs.Common.{◌≡◌, ℕ, zero, suc, ◌+◌, ◌<◌, ◌≤◌, List, [], ◌∷◌, ◌++◌, length, take, drop, Some, None, Option, sym, refl, ap, ◌∙◌, arith, lit≤, length-append, take-append-drop, length-take}
 use Rattle.std.proofs.lemmas.List.{append_assoc, length-take-le, nil_from_length}
 use Rattle.std.proofs.lemmas.Bool.{le-leb, lt-leb, cond-true, cond-false}
 use Rattle.std.proofs.lemmas.Bool.Decides.{nat_tests}
 use Rattle.std.specs.List.{flat_map, IsSplitAt}
-use Rattle.std.specs.Option.{ok_or}
-use Rattle.std.specs.Result.{result_ok, MatchResult}
-use Rattle.refusals.specs.declared.Reason.{Reason}
 use Rattle.sheet.specs.declared.entry.Entry.{Entry}
 use Rattle.sheet.specs.declared.command.Command.{Command}
 use Rattle.sheet.specs.declared.command.Command.TheVariants.{NameArity, DataArity, TickArity, TupleArity, BindingArity, Constructor, Variable, VariableRow, ApplyRow, TupleRow, BindRow}
@@ -30,15 +27,6 @@ most BindRow = lit≤ tt
 pub width_most : (o : Option Command) → operand_count o ≤ 5
 width_most None = omega arith
 width_most (Some c) = most c
-
--- what is read off the command of a byte, where a byte that is none gives an error
-pub command_of : (o : Option Command) (e : Reason) (r : Result Command Reason) (c : Command) → r ≡ ok_or o e → Some c ≡ result_ok r → o ≡ Some c
-command_of None e r c is ok = sym (ok ∙ ap result_ok is)
-command_of (Some d) e r c is ok = sym (ok ∙ ap result_ok is)
-
-pub count_of : (o : Option Command) (e : Reason) (n : ℕ) → MatchResult (ok_or o e) (λ c. n ≡ operands c) (λ _. n ≡ 0) → n ≡ operand_count o
-count_of None e n is = is
-count_of (Some c) e n is = is
 
 -- what `whole` answers
 whole_says : (n m : ℕ) (o : Option Command) → whole n o ≡ Some m → (operand_count o ≡ m) × (m ≤ n)

@@ -12,6 +12,7 @@ use sheet::entry::Entry;
 use sheet::source::{Entries, SheetSource};
 
 // How many bytes the entry takes.
+#[tactic(auto, using(crate::proofs::Packing::length_bytes))]
 fn width(entry: Entry) -> usize
     ensures { result ≡ length (bytes_of entry) }
 {
