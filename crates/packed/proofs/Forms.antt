@@ -15,7 +15,7 @@ use Rattle.sheet.specs.Checks.{Lawful}
 use Rattle.sheet.proofs.Forming.{clean}
 use Rattle.packed.specs.Packed.{operand_count, bytes_of, packed_form, packed, end_byte, FrontWhole}
 use Rattle.packed.specs.Forms.{extent, no_entry, after_end, ending, byte_fault_at, byte_fault, Accepted, OneForm, ReadIsForm, FormReadsBack}
-use Rattle.packed.proofs.Packing.{stop_end, front_longer, opens, width_most, whole_known, packed_whole}
+use Rattle.packed.proofs.Packing.{front_longer, opens, width_most, whole_known, packed_whole}
 
 fault_whole : (n : ℕ) (bs : List ℕ) (e : Entry) (rest : List ℕ) → FrontWhole bs e rest → byte_fault_at n bs ≡ byte_fault_at (n + length (bytes_of e)) rest
 unfolding extent
@@ -45,11 +45,11 @@ fault_stop n bs none =
 
 after_none : (n : ℕ) (bs : List ℕ) → after_end n bs ≡ None → bs ≡ []
 after_none n [] is = refl
-after_none n (b ∷ bs) is = let z : ◌≡◌ {A = ℕ} 0 1 = cc in absurd (omega arith)
+after_none n (b ∷ bs) is = cc
 
 entry_none : (n : ℕ) (o : Option Command) → no_entry n o ≡ None → ⊥
-entry_none n None is = let z : ◌≡◌ {A = ℕ} 0 1 = cc in omega arith
-entry_none n (Some c) is = let z : ◌≡◌ {A = ℕ} 0 1 = cc in omega arith
+entry_none n None is = cc
+entry_none n (Some c) is = cc
 
 ends_at : (t : Bool) (n b : ℕ) (bs : List ℕ) → eqb b end_byte ≡ t → cond t (after_end n bs) (no_entry n (command b)) ≡ None → b ∷ bs ≡ end_byte ∷ []
 ends_at true n b bs here is = let first = eqb-true b end_byte here in let rest = after_none n bs is in cc
@@ -57,7 +57,7 @@ ends_at false n b bs here is = absurd (entry_none n (command b) is)
 
 -- nothing is wrong with the end byte alone
 ending_none : (n : ℕ) (bs : List ℕ) → ending n bs ≡ None → bs ≡ end_byte ∷ []
-ending_none n [] is = let z : ◌≡◌ {A = ℕ} 0 1 = cc in absurd (omega arith)
+ending_none n [] is = cc
 ending_none n (b ∷ bs) is = ends_at (eqb b end_byte) n b bs refl is
 
 pub read_is_form : ReadIsForm
@@ -104,7 +104,7 @@ fills S e TupleRow = λ _. refl
 fills S e BindRow = filled 3 e
 
 spelt_of : (S : Sheet) (e : Entry) (o : Option Command) → command e.command ≡ o → fault_of S e (item_of S e o) ≡ None → Spelt e
-spelt_of S e None known none = let z : ◌≡◌ {A = ℕ} 0 1 = cc in absurd (omega arith)
+spelt_of S e None known none = cc
 spelt_of S e (Some c) known none = record { is = c; known = known; spelt = fills S e c (clean S e (item_by S e c) none).unpadded }
 
 faultless_spelt : (S : Sheet) (e : Entry) → fault S e ≡ None → Spelt e
@@ -125,8 +125,8 @@ packed_spelt e rest s =
     ∙ ap (λ x. x ∷ packed rest) s.spelt
 
 packed_back : (es : List Entry) → ((j : ℕ) (e : Entry) → slice_get es j ≡ Some e → Spelt e) → packed (packed_form es) ≡ es
-unfolding packed_form
-packed_back [] each = stop_end _ [] refl
+unfolding packed_form packed
+packed_back [] each = refl
 packed_back (e ∷ es) each =
     ap packed (append_assoc (bytes_of e) (flat_map bytes_of es) (end_byte ∷ []))
     ∙ packed_spelt e (packed_form es) (each 0 e refl)

@@ -1,7 +1,7 @@
 -- Packed bytes, one command at a time.
-use Rattle.std.proofs.Common.{◌≡◌, ℕ, zero, suc, ◌+◌, ◌<◌, ◌≤◌, List, [], ◌∷◌, ◌++◌, length, take, drop, Some, None, Option, sym, refl, ap, ◌∙◌, arith, lit≤, length-append, take-append-drop, length-take}
-use Rattle.std.proofs.lemmas.List.{append_assoc, length-take-le, nil_from_length}
-use Rattle.std.proofs.lemmas.Bool.{le-leb, lt-leb, cond-true, cond-false}
+use Rattle.std.proofs.Common.{◌≡◌, ℕ, zero, suc, ◌+◌, ◌≤◌, List, [], ◌∷◌, ◌++◌, length, take, drop, Some, None, Option, sym, refl, ap, ◌∙◌, arith, lit≤, length-append, take-append-drop, length-take}
+use Rattle.std.proofs.lemmas.List.{append_assoc, length-take-le}
+use Rattle.std.proofs.lemmas.Bool.{le-leb, cond-true}
 use Rattle.std.proofs.lemmas.Bool.Decides.{nat_tests}
 use Rattle.std.specs.List.{flat_map, IsSplitAt}
 use Rattle.sheet.specs.declared.entry.Entry.{Entry}
@@ -9,7 +9,7 @@ use Rattle.sheet.specs.declared.command.Command.{Command}
 use Rattle.sheet.specs.declared.command.Command.TheVariants.{NameArity, DataArity, TickArity, TupleArity, BindingArity, Constructor, Variable, VariableRow, ApplyRow, TupleRow, BindRow}
 use Rattle.sheet.specs.Commands.{command, operands}
 use Rattle.sheet.specs.Operands.{operand_list, entry_of}
-use Rattle.packed.specs.Packed.{operand_count, bytes_of, whole, command_then, packed_past, packed, FrontWhole, end_byte}
+use Rattle.packed.specs.Packed.{operand_count, bytes_of, whole, command_then, packed_past, packed, FrontWhole}
 
 most : (c : Command) → operands c ≤ 5
 most NameArity = lit≤ tt
@@ -30,7 +30,7 @@ width_most (Some c) = most c
 
 -- what `whole` answers
 whole_says : (n m : ℕ) (o : Option Command) → whole n o ≡ Some m → (operand_count o ≡ m) × (m ≤ n)
-whole_says n m None is = let z : ◌≡◌ {A = ℕ} 0 1 = cc in absurd (omega arith)
+whole_says n m None is = cc
 whole_says n m (Some c) is = grind (arith, nat_tests)
 
 pub whole_known : (b n : ℕ) (c : Command) (bs : List ℕ) → command b ≡ Some c → operands c ≡ n → n ≤ length bs →
@@ -38,9 +38,6 @@ pub whole_known : (b n : ℕ) (c : Command) (bs : List ℕ) → command b ≡ So
 whole_known b n c bs known is fits =
     let all : operands c ≤ length bs = omega arith in
     ap (whole (length bs)) known ∙ cond-true _ _ _ (le-leb _ _ all) ∙ ap (λ m. Some m) is
-
-whole_cut : (n : ℕ) (c : Command) → n < operands c → whole n (Some c) ≡ None
-whole_cut n c short = cond-false _ _ _ (lt-leb _ _ short)
 
 -- the operands of an entry are those that it was made of
 listed : (b : ℕ) (xs : List ℕ) → length xs ≤ 5 → take (length xs) (operand_list (entry_of b xs)) ≡ xs
@@ -70,10 +67,6 @@ pub packed_whole : (b n : ℕ) (bs : List ℕ) → whole (length bs) (command b)
 unfolding packed
 packed_whole b n bs is = ap (command_then b bs (λ n. packed_past n bs)) is ∙ ap (λ es. entry_of b (take n bs) ∷ es) (packed-drop n bs)
 
-pub packed_none : (b : ℕ) (bs : List ℕ) → whole (length bs) (command b) ≡ None → packed (b ∷ bs) ≡ []
-unfolding packed
-packed_none b bs is = ap (command_then b bs (λ n. packed_past n bs)) is
-
 pub front_whole : (b n : ℕ) (bs : List ℕ) → whole (length bs) (command b) ≡ Some n → FrontWhole (b ∷ bs) (entry_of b (take n bs)) (drop n bs)
 front_whole b n bs is =
     let says = whole_says (length bs) n (command b) is in
@@ -83,20 +76,7 @@ front_whole b n bs is =
       means = packed_whole b n bs is;
     }
 
--- where no whole command stands in front, the bytes mean nothing
-pub stop_nil : (bs : List ℕ) → length bs ≡ 0 → packed bs ≡ []
-unfolding packed
-stop_nil bs none = ap packed (nil_from_length bs none)
-
-pub stop_unknown : (bs : List ℕ) (b : ℕ) (rest : List ℕ) → bs ≡ b ∷ rest → command b ≡ None → packed bs ≡ []
-stop_unknown bs b rest is none = ap packed is ∙ packed_none b rest (ap (whole (length rest)) none)
-
-pub stop_end : (bs rest : List ℕ) → bs ≡ end_byte ∷ rest → packed bs ≡ []
-stop_end bs rest is = stop_unknown bs end_byte rest is refl
-
-pub stop_cut : (bs : List ℕ) (b : ℕ) (c : Command) (rest : List ℕ) → bs ≡ b ∷ rest → command b ≡ Some c → length rest < operands c → packed bs ≡ []
-stop_cut bs b c rest is known short = ap packed is ∙ packed_none b rest (ap (whole (length rest)) known ∙ whole_cut _ c short)
-
+-- the same of a slice that was cut after the operands
 pub front_split : (b n : ℕ) (c : Command) (bs given rest : List ℕ) → command b ≡ Some c → n ≡ operands c → IsSplitAt bs n given rest → FrontWhole (b ∷ bs) (entry_of b given) rest
 front_split b n c bs given rest known is split = rw (split.1, split.2) (front_whole b n bs (whole_known b n c bs known (sym is) split.0))
 

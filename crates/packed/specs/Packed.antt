@@ -1,9 +1,9 @@
 -- The packed form.
 --
--- bytes_of e      the bytes of an entry: its command and that command's operands
--- packed_form es  the packed form of a list of entries
--- packed bs       the entries that bytes mean: the whole commands before the first end byte, unknown byte or cut command
--- FrontWhole bs e rest   bs begins with the whole command e, and rest follows it
+-- bytes_of e             the bytes of an entry: its command and that command's operands
+-- packed_form es         the packed form of a list of entries
+-- packed bs              the entries that bytes mean: the whole commands before the first end byte, unknown byte or cut command
+-- FrontWhole bs e rest   bytes bs begin with the whole command of e, and rest follows it
 use Rattle.std.specs.Prelude.{◌≡◌, ℕ, zero, suc, cond, List, [], ◌∷◌, ◌++◌, length, take, Some, None, Option, nat_le}
 use Rattle.std.specs.List.{flat_map}
 use Rattle.sheet.specs.declared.entry.Entry.{Entry}
