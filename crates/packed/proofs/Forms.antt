@@ -1,24 +1,23 @@
 -- What is wrong with packed bytes, and the packed form of a lawful sheet.
-use Rattle.std.proofs.Common.{◌≡◌, ℕ, zero, suc, ◌+◌, Bool, true, false, cond, eqb, ◌⊎◌, List, [], ◌∷◌, ◌++◌, length, get_or, take, drop, Some, None, Option, sym, refl, ap, ◌∙◌, subst, inl, inr, arith, length-append}
-use Rattle.std.proofs.lemmas.List.{append_assoc, drop-drop, drop_at, take_at, length-take-le, nil_from_length}
+use Rattle.std.proofs.Common.{◌≡◌, ℕ, zero, suc, ◌+◌, ◌-◌, ◌≤◌, Bool, true, false, cond, eqb, List, [], ◌∷◌, ◌++◌, length, get_or, take, drop, Some, None, Option, sym, refl, ap, ◌∙◌, subst, arith, length-append}
+use Rattle.std.proofs.lemmas.List.{append_assoc, drop-drop, drop_at, take_at, length-take-le}
 use Rattle.std.proofs.lemmas.List.Prefix.{front_rest}
-use Rattle.std.proofs.lemmas.Bool.{cond-false, ne_eqb, eqb-true, eqb-false, and_parts, not-false}
-use Rattle.std.specs.List.{slice_get, flat_map}
-use Rattle.refusals.specs.declared.Reason.TheVariants.{Cut, Unknown, Tail}
+use Rattle.std.proofs.lemmas.Bool.{eqb-true, and_parts, not-false}
+use Rattle.std.specs.List.{slice_get, flat_map, list_all}
 use Rattle.sheet.specs.declared.entry.Entry.{Entry}
 use Rattle.sheet.specs.declared.command.Command.{Command}
 use Rattle.sheet.specs.declared.command.Command.TheVariants.{NameArity, DataArity, TickArity, TupleArity, BindingArity, Constructor, Variable, VariableRow, ApplyRow, TupleRow, BindRow}
 use Rattle.sheet.specs.Commands.{command, operands}
-use Rattle.sheet.specs.Operands.{all, operand_list, nonzero_past, entry_of}
+use Rattle.sheet.specs.Operands.{operand_list, nonzero_past, entry_of}
 use Rattle.sheet.specs.Sheets.{Sheet, item, item_of, item_by, sheet_of}
 use Rattle.sheet.specs.Faults.{padded, fault_of, fault}
 use Rattle.sheet.specs.Checks.{Lawful}
 use Rattle.sheet.proofs.Forming.{clean}
-use Rattle.packed.specs.Packed.{operand_count, bytes_of, packed_form, packed, end_byte, FrontWhole, FrontUnknown, FrontCut}
+use Rattle.packed.specs.Packed.{operand_count, bytes_of, packed_form, packed, end_byte, FrontWhole}
 use Rattle.packed.specs.Forms.{extent, no_entry, after_end, ending, byte_fault_at, byte_fault, Accepted, OneForm, ReadIsForm, FormReadsBack}
-use Rattle.packed.proofs.Packing.{stop_end, stop_unknown, stop_cut, opens, width_most, whole_known, packed_whole}
+use Rattle.packed.proofs.Packing.{front_longer, opens, width_most, whole_known, packed_whole}
 
-pub fault_whole : (n : ℕ) (bs : List ℕ) (e : Entry) (rest : List ℕ) → FrontWhole bs e rest → byte_fault_at n bs ≡ byte_fault_at (n + length (bytes_of e)) rest
+fault_whole : (n : ℕ) (bs : List ℕ) (e : Entry) (rest : List ℕ) → FrontWhole bs e rest → byte_fault_at n bs ≡ byte_fault_at (n + length (bytes_of e)) rest
 unfolding extent
 fault_whole n bs e rest f =
     let wide : extent bs ≡ length (bytes_of e) + extent rest =
@@ -28,44 +27,29 @@ fault_whole n bs e rest f =
     let sum : n + extent bs ≡ n + length (bytes_of e) + extent rest = omega arith in
     cc
 
+-- the end of all, with its first command and past it
+pub fault_past : (all bs : List ℕ) (e : Entry) (rest : List ℕ) → FrontWhole bs e rest → length bs ≤ length all →
+    byte_fault_at (length all - length bs) bs ≡ byte_fault_at (length all - length rest) rest
+fault_past all bs e rest f within =
+    let less = front_longer bs e rest f in
+    let past : length all - length bs + length (bytes_of e) ≡ length all - length rest = omega arith in
+    fault_whole (length all - length bs) bs e rest f ∙ ap (λ n. byte_fault_at n rest) past
+
 -- where no command stands in front
-fault_stop : (n : ℕ) (bs : List ℕ) → packed bs ≡ [] → byte_fault_at n bs ≡ ending n bs
+pub fault_stop : (n : ℕ) (bs : List ℕ) → packed bs ≡ [] → byte_fault_at n bs ≡ ending n bs
 unfolding extent
 fault_stop n bs none =
     let nil : extent bs ≡ 0 = ap (λ es. length (flat_map bytes_of es)) none in
     let sum : n + extent bs ≡ n = omega arith in
     ap (λ m. ending m (drop (extent bs) bs)) sum ∙ ap (λ m. ending n (drop m bs)) nil
 
-fault_end : (n : ℕ) (bs rest : List ℕ) → bs ≡ end_byte ∷ rest → byte_fault_at n bs ≡ after_end n rest
-fault_end n bs rest is = fault_stop n bs (stop_end bs rest is) ∙ ap (ending n) is
-
-pub fault_none : (n : ℕ) (bs rest : List ℕ) → bs ≡ end_byte ∷ rest → true ≡ eqb (length rest) 0 → byte_fault_at n bs ≡ None
-fault_none n bs rest is empty = fault_end n bs rest is ∙ ap (after_end n) (nil_from_length rest (eqb-true _ _ (sym empty)))
-
-tail : (n : ℕ) (rest : List ℕ) → (length rest ≡ 0 → ⊥) → after_end n rest ≡ Some (record { reason = Tail; place = n + 1 })
-tail n [] more = absurd (more refl)
-tail n (b ∷ rest) more = refl
-
-pub fault_tail : (n : ℕ) (bs rest : List ℕ) → bs ≡ end_byte ∷ rest → false ≡ eqb (length rest) 0 → byte_fault_at n bs ≡ Some (record { reason = Tail; place = n + 1 })
-fault_tail n bs rest is more = fault_end n bs rest is ∙ tail n rest (eqb-false _ _ (sym more))
-
-pub fault_unknown : (n : ℕ) (bs : List ℕ) → FrontUnknown bs → byte_fault_at n bs ≡ Some (record { reason = Unknown; place = n })
-fault_unknown n bs f = fault_stop n bs (stop_unknown bs f) ∙ ap (ending n) f.split ∙ cond-false _ _ _ (ne_eqb _ _ f.no_end) ∙ ap (no_entry n) f.no_command
-
-no_end : (b : ℕ) (c : Command) → command b ≡ Some c → b ≡ end_byte → ⊥
-no_end b c known is = let none : command b ≡ None = ap command is in let z : ◌≡◌ {A = ℕ} 0 1 = cc in omega arith
-
-pub fault_cut : (n : ℕ) (bs : List ℕ) → (bs ≡ []) ⊎ FrontCut bs → byte_fault_at n bs ≡ Some (record { reason = Cut; place = n })
-fault_cut n bs (inl is) = fault_stop n bs (stop_cut bs (inl is)) ∙ ap (ending n) is
-fault_cut n bs (inr f) = fault_stop n bs (stop_cut bs (inr f)) ∙ ap (ending n) f.split ∙ cond-false _ _ _ (ne_eqb _ _ (no_end f.byte f.is f.known)) ∙ ap (no_entry n) f.known
-
 after_none : (n : ℕ) (bs : List ℕ) → after_end n bs ≡ None → bs ≡ []
 after_none n [] is = refl
-after_none n (b ∷ bs) is = let z : ◌≡◌ {A = ℕ} 0 1 = cc in absurd (omega arith)
+after_none n (b ∷ bs) is = cc
 
 entry_none : (n : ℕ) (o : Option Command) → no_entry n o ≡ None → ⊥
-entry_none n None is = let z : ◌≡◌ {A = ℕ} 0 1 = cc in omega arith
-entry_none n (Some c) is = let z : ◌≡◌ {A = ℕ} 0 1 = cc in omega arith
+entry_none n None is = cc
+entry_none n (Some c) is = cc
 
 ends_at : (t : Bool) (n b : ℕ) (bs : List ℕ) → eqb b end_byte ≡ t → cond t (after_end n bs) (no_entry n (command b)) ≡ None → b ∷ bs ≡ end_byte ∷ []
 ends_at true n b bs here is = let first = eqb-true b end_byte here in let rest = after_none n bs is in cc
@@ -73,7 +57,7 @@ ends_at false n b bs here is = absurd (entry_none n (command b) is)
 
 -- nothing is wrong with the end byte alone
 ending_none : (n : ℕ) (bs : List ℕ) → ending n bs ≡ None → bs ≡ end_byte ∷ []
-ending_none n [] is = let z : ◌≡◌ {A = ℕ} 0 1 = cc in absurd (omega arith)
+ending_none n [] is = cc
 ending_none n (b ∷ bs) is = ends_at (eqb b end_byte) n b bs refl is
 
 pub read_is_form : ReadIsForm
@@ -91,7 +75,7 @@ pub record Spelt (e : Entry) : Type 0 where
   pub spelt : entry_of e.command (take (operands is) (operand_list e)) ≡ e
 
 -- zeros past the first n need no bytes
-zeros : (n : ℕ) (xs : List ℕ) (i : ℕ) → all (λ x. eqb x 0) (drop n xs) ≡ true → get_or (take n xs) i 0 ≡ get_or xs i 0
+zeros : (n : ℕ) (xs : List ℕ) (i : ℕ) → list_all (λ x. eqb x 0) (drop n xs) ≡ true → get_or (take n xs) i 0 ≡ get_or xs i 0
 zeros zero [] i nil = refl
 zeros zero (x ∷ xs) zero nil = sym (eqb-true x 0 (and_parts _ _ nil).0)
 zeros zero (x ∷ xs) (suc i) nil = zeros zero xs i (and_parts _ _ nil).1
@@ -120,7 +104,7 @@ fills S e TupleRow = λ _. refl
 fills S e BindRow = filled 3 e
 
 spelt_of : (S : Sheet) (e : Entry) (o : Option Command) → command e.command ≡ o → fault_of S e (item_of S e o) ≡ None → Spelt e
-spelt_of S e None known none = let z : ◌≡◌ {A = ℕ} 0 1 = cc in absurd (omega arith)
+spelt_of S e None known none = cc
 spelt_of S e (Some c) known none = record { is = c; known = known; spelt = fills S e c (clean S e (item_by S e c) none).unpadded }
 
 faultless_spelt : (S : Sheet) (e : Entry) → fault S e ≡ None → Spelt e
@@ -141,8 +125,8 @@ packed_spelt e rest s =
     ∙ ap (λ x. x ∷ packed rest) s.spelt
 
 packed_back : (es : List Entry) → ((j : ℕ) (e : Entry) → slice_get es j ≡ Some e → Spelt e) → packed (packed_form es) ≡ es
-unfolding packed_form
-packed_back [] each = stop_end _ [] refl
+unfolding packed_form packed
+packed_back [] each = refl
 packed_back (e ∷ es) each =
     ap packed (append_assoc (bytes_of e) (flat_map bytes_of es) (end_byte ∷ []))
     ∙ packed_spelt e (packed_form es) (each 0 e refl)

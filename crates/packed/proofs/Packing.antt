@@ -1,38 +1,36 @@
 -- Packed bytes, one command at a time.
-use Rattle.std.proofs.Common.{◌≡◌, ℕ, zero, suc, ◌+◌, ◌<◌, ◌≤◌, cond, ltb, ◌⊎◌, List, [], ◌∷◌, ◌++◌, length, get_or, take, drop, Some, None, Option, sym, refl, ap, ◌∙◌, subst, inl, inr, arith, lit≤, length-append, take-append-drop, length-take, Bor}
-use Rattle.std.proofs.lemmas.List.{append_assoc, get_or-take, get_or_past, length-take-le}
-use Rattle.std.proofs.lemmas.Bool.{le-leb, lt-leb, cond-true, cond-false}
+use Rattle.std.proofs.Common.{◌≡◌, ℕ, zero, suc, ◌+◌, ◌≤◌, List, [], ◌∷◌, ◌++◌, length, take, drop, Some, None, Option, sym, refl, ap, ◌∙◌, arith, lit≤, length-append, take-append-drop, length-take}
+use Rattle.std.proofs.lemmas.List.{append_assoc, length-take-le}
+use Rattle.std.proofs.lemmas.Bool.{le-leb, cond-true}
 use Rattle.std.proofs.lemmas.Bool.Decides.{nat_tests}
-use Rattle.std.specs.List.{flat_map}
+use Rattle.std.specs.List.{flat_map, IsSplitAt}
 use Rattle.sheet.specs.declared.entry.Entry.{Entry}
 use Rattle.sheet.specs.declared.command.Command.{Command}
 use Rattle.sheet.specs.declared.command.Command.TheVariants.{NameArity, DataArity, TickArity, TupleArity, BindingArity, Constructor, Variable, VariableRow, ApplyRow, TupleRow, BindRow}
-use Rattle.packed.specs.declared.source.Front.{Front}
-use Rattle.packed.specs.declared.source.Front.TheVariants.{Whole, End, Unknown, Cut}
 use Rattle.sheet.specs.Commands.{command, operands}
 use Rattle.sheet.specs.Operands.{operand_list, entry_of}
-use Rattle.packed.specs.Packed.{Fronts, operand_count, bytes_of, whole, command_then, packed_past, packed, FrontWhole, FrontUnknown, FrontCut, end_byte}
+use Rattle.packed.specs.Packed.{operand_count, bytes_of, whole, command_then, packed_past, packed, FrontWhole}
 
-pub widths : (c : Command) → (operands c ≤ 3) ⊎ (operands c ≡ 5)
-widths NameArity = inl (lit≤ tt)
-widths DataArity = inl (lit≤ tt)
-widths TickArity = inl (lit≤ tt)
-widths TupleArity = inr refl
-widths BindingArity = inl (lit≤ tt)
-widths Constructor = inl (lit≤ tt)
-widths Variable = inl (lit≤ tt)
-widths VariableRow = inl (lit≤ tt)
-widths ApplyRow = inl (lit≤ tt)
-widths TupleRow = inr refl
-widths BindRow = inl (lit≤ tt)
+most : (c : Command) → operands c ≤ 5
+most NameArity = lit≤ tt
+most DataArity = lit≤ tt
+most TickArity = lit≤ tt
+most TupleArity = lit≤ tt
+most BindingArity = lit≤ tt
+most Constructor = lit≤ tt
+most Variable = lit≤ tt
+most VariableRow = lit≤ tt
+most ApplyRow = lit≤ tt
+most TupleRow = lit≤ tt
+most BindRow = lit≤ tt
 
 pub width_most : (o : Option Command) → operand_count o ≤ 5
 width_most None = omega arith
-width_most (Some c) = omega (arith, widths c)
+width_most (Some c) = most c
 
 -- what `whole` answers
 whole_says : (n m : ℕ) (o : Option Command) → whole n o ≡ Some m → (operand_count o ≡ m) × (m ≤ n)
-whole_says n m None is = let z : ◌≡◌ {A = ℕ} 0 1 = cc in absurd (omega arith)
+whole_says n m None is = cc
 whole_says n m (Some c) is = grind (arith, nat_tests)
 
 pub whole_known : (b n : ℕ) (c : Command) (bs : List ℕ) → command b ≡ Some c → operands c ≡ n → n ≤ length bs →
@@ -40,9 +38,6 @@ pub whole_known : (b n : ℕ) (c : Command) (bs : List ℕ) → command b ≡ So
 whole_known b n c bs known is fits =
     let all : operands c ≤ length bs = omega arith in
     ap (whole (length bs)) known ∙ cond-true _ _ _ (le-leb _ _ all) ∙ ap (λ m. Some m) is
-
-whole_cut : (n : ℕ) (c : Command) → n < operands c → whole n (Some c) ≡ None
-whole_cut n c short = cond-false _ _ _ (lt-leb _ _ short)
 
 -- the operands of an entry are those that it was made of
 listed : (b : ℕ) (xs : List ℕ) → length xs ≤ 5 → take (length xs) (operand_list (entry_of b xs)) ≡ xs
@@ -72,10 +67,6 @@ pub packed_whole : (b n : ℕ) (bs : List ℕ) → whole (length bs) (command b)
 unfolding packed
 packed_whole b n bs is = ap (command_then b bs (λ n. packed_past n bs)) is ∙ ap (λ es. entry_of b (take n bs) ∷ es) (packed-drop n bs)
 
-pub packed_none : (b : ℕ) (bs : List ℕ) → whole (length bs) (command b) ≡ None → packed (b ∷ bs) ≡ []
-unfolding packed
-packed_none b bs is = ap (command_then b bs (λ n. packed_past n bs)) is
-
 pub front_whole : (b n : ℕ) (bs : List ℕ) → whole (length bs) (command b) ≡ Some n → FrontWhole (b ∷ bs) (entry_of b (take n bs)) (drop n bs)
 front_whole b n bs is =
     let says = whole_says (length bs) n (command b) is in
@@ -85,56 +76,16 @@ front_whole b n bs is =
       means = packed_whole b n bs is;
     }
 
--- the entry of a command byte and the first n of the bytes after it
-abbrev pub front : ℕ → ℕ → List ℕ → Entry
-front n b bs = record {
-  command = b;
-  a = cond (ltb 0 n) (get_or bs 0 0) 0;
-  b = cond (ltb 1 n) (get_or bs 1 0) 0;
-  c = cond (ltb 2 n) (get_or bs 2 0) 0;
-  d = cond (ltb 3 n) (get_or bs 3 0) 0;
-  e = cond (ltb 4 n) (get_or bs 4 0) 0;
-}
-
-taken : (n i : ℕ) (bs : List ℕ) → get_or (take n bs) i 0 ≡ cond (ltb i n) (get_or bs i 0) 0
-taken n i bs = grind (arith, nat_tests, get_or-take, get_or_past, length-take)
-
-front_is : (n b : ℕ) (bs : List ℕ) → entry_of b (take n bs) ≡ front n b bs
-front_is n b bs = cc (taken n 0 bs, taken n 1 bs, taken n 2 bs, taken n 3 bs, taken n 4 bs)
-
--- the command with its first n bytes, and the bytes after them
-pub read_whole : (n b : ℕ) (c : Command) (bs : List ℕ) (r : Front) (e : Entry) (rest : Bor (List ℕ)) →
-    command b ≡ Some c → operands c ≡ n → n ≤ length bs → r ≡ Whole e rest → e ≡ front n b bs → rest.now ≡ drop n bs → Fronts (b ∷ bs) r
-read_whole n b c bs r e rest known is fits whole_is entry_is rest_is =
-    let found : FrontWhole (b ∷ bs) (front n b bs) (drop n bs) = rw (← front_is n b bs) (front_whole b n bs (whole_known b n c bs known is fits)) in
-    let here : FrontWhole (b ∷ bs) e rest.now = rw (entry_is, rest_is) found in
-    subst (Fronts (b ∷ bs)) (sym whole_is) here
-
-pub stop_end : (bs rest : List ℕ) → bs ≡ end_byte ∷ rest → packed bs ≡ []
-stop_end bs rest is = ap packed is ∙ packed_none end_byte rest refl
-
-pub stop_unknown : (bs : List ℕ) → FrontUnknown bs → packed bs ≡ []
-stop_unknown bs f = ap packed f.split ∙ packed_none f.byte f.rest (ap (whole (length f.rest)) f.no_command)
-
-pub stop_cut : (bs : List ℕ) → (bs ≡ []) ⊎ FrontCut bs → packed bs ≡ []
-unfolding packed
-stop_cut bs (inl is) = ap packed is
-stop_cut bs (inr f) =
-    ap packed f.split ∙ packed_none f.byte f.rest (ap (whole (length f.rest)) f.known ∙ whole_cut _ f.is f.short)
+-- the same of a slice that was cut after the operands
+pub front_split : (b n : ℕ) (c : Command) (bs given rest : List ℕ) → command b ≡ Some c → n ≡ operands c → IsSplitAt bs n given rest → FrontWhole (b ∷ bs) (entry_of b given) rest
+front_split b n c bs given rest known is split = rw (split.1, split.2) (front_whole b n bs (whole_known b n c bs known (sym is) split.0))
 
 pub length_bytes : (e : Entry) → length (bytes_of e) ≡ 1 + operand_count (command e.command)
 unfolding bytes_of
 length_bytes e = omega (arith, width_most (command e.command), length-take (operand_count (command e.command)) (operand_list e))
 
-pub front_shorter : (bs : List ℕ) (e : Entry) (rest : List ℕ) → FrontWhole bs e rest → length bs ≡ length (bytes_of e) + length rest
-front_shorter bs e rest f = ap length f.split ∙ length-append (bytes_of e) rest
-
--- where no whole command stands in front, the bytes mean nothing
-pub no_front : (bs : List ℕ) (r : Front) → Fronts bs r → ((e : Entry) (rest : Bor (List ℕ)) → r ≡ Whole e rest → ⊥) → packed bs ≡ []
-no_front bs (Whole e rest) f not_whole = absurd (not_whole e rest refl)
-no_front bs (End rest) f not_whole = stop_end bs rest.now f
-no_front bs Unknown f not_whole = stop_unknown bs f
-no_front bs Cut f not_whole = stop_cut bs f
+pub front_longer : (bs : List ℕ) (e : Entry) (rest : List ℕ) → FrontWhole bs e rest → length bs ≡ length (bytes_of e) + length rest
+front_longer bs e rest f = ap length f.split ∙ length-append (bytes_of e) rest
 
 -- the bytes of the entries are the front of the bytes
 pub record Opens (es : List Entry) (bs : List ℕ) : Type 0 where

@@ -1,15 +1,13 @@
 -- The packed form.
 --
--- bytes_of e      the bytes of an entry: its command and that command's operands
--- packed_form es  the packed form of a list of entries
--- packed bs       the entries that bytes mean: the whole commands before the first end byte, unknown byte or cut command
--- Fronts bs r     what stands at the front of bytes
-use Rattle.std.specs.Prelude.{◌≡◌, ℕ, zero, suc, ◌<◌, cond, ◌⊎◌, List, [], ◌∷◌, ◌++◌, length, take, Some, None, Option, nat_le}
+-- bytes_of e             the bytes of an entry: its command and that command's operands
+-- packed_form es         the packed form of a list of entries
+-- packed bs              the entries that bytes mean: the whole commands before the first end byte, unknown byte or cut command
+-- FrontWhole bs e rest   bytes bs begin with the whole command of e, and rest follows it
+use Rattle.std.specs.Prelude.{◌≡◌, ℕ, zero, suc, cond, List, [], ◌∷◌, ◌++◌, length, take, Some, None, Option, nat_le}
 use Rattle.std.specs.List.{flat_map}
 use Rattle.sheet.specs.declared.entry.Entry.{Entry}
 use Rattle.sheet.specs.declared.command.Command.{Command}
-use Rattle.packed.specs.declared.source.Front.{Front}
-use Rattle.packed.specs.declared.source.Front.TheVariants.{Whole, End, Unknown, Cut}
 use Rattle.sheet.specs.Commands.{command, operands}
 use Rattle.sheet.specs.Operands.{operand_list, entry_of}
 
@@ -50,24 +48,3 @@ packed bs = packed_past 0 bs
 pub record FrontWhole (bs : List ℕ) (e : Entry) (rest : List ℕ) : Type 0 where
   pub split : bs ≡ bytes_of e ++ rest
   pub means : packed bs ≡ e ∷ packed rest
-
-pub record FrontUnknown (bs : List ℕ) : Type 0 where
-  pub byte : ℕ
-  pub rest : List ℕ
-  pub split : bs ≡ byte ∷ rest
-  pub no_command : command byte ≡ None
-  pub no_end : byte ≡ end_byte → ⊥
-
-pub record FrontCut (bs : List ℕ) : Type 0 where
-  pub byte : ℕ
-  pub rest : List ℕ
-  pub is : Command
-  pub split : bs ≡ byte ∷ rest
-  pub known : command byte ≡ Some is
-  pub short : length rest < operands is
-
-abbrev pub Fronts : List ℕ → Front → Type 0
-Fronts bs (Whole e rest) = FrontWhole bs e rest.now
-Fronts bs (End rest) = bs ≡ end_byte ∷ rest.now
-Fronts bs Unknown = FrontUnknown bs
-Fronts bs Cut = (bs ≡ []) ⊎ FrontCut bs

@@ -1,46 +1,36 @@
 //! Reading a packed sheet.
-ghost use Rattle.std.specs.Prelude.{◌≡◌};
-ghost use Rattle.packed.specs.Forms.{Read, byte_fault, OneForm, ReadIsForm};
+ghost use Rattle.std.specs.Prelude.{◌≡◌, ◌+◌, ◌^◌, ◌<◌, length, MatchResult, None, Some};
+ghost use Rattle.packed.specs.Forms.{Read, ending, byte_fault, OneForm, ReadIsForm};
 
-use crate::source::{Front, Packed, peek};
+use crate::source::{END, Packed, first_command};
 use refusals::{Reason, Refusal};
 use sheet::check::check;
+use sheet::command::Command;
 use sheet::source::SheetSource;
 
-// What is wrong with the bytes of a packed sheet.
-fn byte_fault(bytes: &[u8]) -> Option<Refusal>
-    ensures { result ≡ byte_fault bytes.now }
+// What is wrong with the bytes from `place` on, where the whole commands end.
+fn ending(place: usize, rest: &[u8]) -> Result<(), Refusal>
+    requires { place + length rest.now < 2 ^ 64 }
+    ensures { MatchResult result (λ _. ending place rest.now ≡ None) (λ f. ending place rest.now ≡ Some f) }
 {
-    let mut at = 0;
+    let (reason, place) = match rest {
+        [END] => return Ok(()),
+        [END, ..] => (Reason::Tail, place + 1),
+        [byte, ..] if Command::try_from(*byte).is_err() => (Reason::Unknown, place),
+        _ => (Reason::Cut, place),
+    };
+    Err(Refusal { reason, place })
+}
+
+// What is wrong with the bytes of a packed sheet.
+fn byte_fault(bytes: &[u8]) -> Result<(), Refusal>
+    ensures { MatchResult result (λ _. byte_fault bytes.now ≡ None) (λ f. byte_fault bytes.now ≡ Some f) }
+{
     let mut rest = bytes;
-    loop {
-        match peek(rest) {
-            Front::Whole {
-                entry: _,
-                rest: after,
-            } => {
-                at += rest.len() - after.len();
-                rest = after;
-            }
-            Front::End { rest: after } => {
-                if after.is_empty() {
-                    return None;
-                }
-                return Some(Refusal {
-                    reason: Reason::Tail,
-                    place: at + 1,
-                });
-            }
-            Front::Unknown => return Some(Refusal {
-                reason: Reason::Unknown,
-                place: at,
-            }),
-            Front::Cut => return Some(Refusal {
-                reason: Reason::Cut,
-                place: at,
-            }),
-        }
+    while let Some((_, after)) = first_command(rest) {
+        rest = after;
     }
+    ending(bytes.len() - rest.len(), rest)
 }
 
 /// Tests the bytes, then the sheet that they mean, and answers its number of entries.
@@ -49,12 +39,8 @@ pub fn read(bytes: &[u8]) -> Result<usize, Refusal>
     ensures form { ReadIsForm }
     ensures one { OneForm }
 {
-    if let Some(refusal) = byte_fault(bytes) {
-        return Err(refusal);
-    }
+    byte_fault(bytes)?;
     let packed = Packed { bytes };
-    match check(&packed) {
-        Ok(()) => Ok(packed.count()),
-        Err(refusal) => Err(refusal),
-    }
+    check(&packed)?;
+    Ok(packed.count())
 }

@@ -1,8 +1,8 @@
 //! Packed sheets: the commands in order, each with its own operands, and an end byte.
-ghost use Rattle.std.specs.Prelude.{◌≡◌, ◌∷◌, Some};
-ghost use Rattle.packed.specs.declared.source.Front.TheVariants.{Whole};
-ghost use Rattle.sheet.specs.Commands.{command as command_of};
-ghost use Rattle.packed.specs.Packed.{packed, Fronts};
+ghost use Rattle.std.specs.Prelude.{◌≡◌, [], MatchOption};
+ghost use Rattle.std.specs.Iterator.{YieldsFirst, item_count};
+ghost use Rattle.sheet.specs.Operands.{entry_of};
+ghost use Rattle.packed.specs.Packed.{packed, FrontWhole};
 
 use sheet::command::Command;
 use sheet::entry::Entry;
@@ -11,65 +11,51 @@ use sheet::source::SheetSource;
 /// The byte after the last command.
 pub const END: u8 = 0xFF;
 
-/// What stands at the front of some bytes.
-#[derive(Clone, Copy)]
-pub enum Front<'a> {
-    /// A whole command, and the bytes after it.
-    Whole { entry: Entry, rest: &'a [u8] },
-    /// The end byte, and the bytes after it.
-    End { rest: &'a [u8] },
-    /// A byte that is no command.
-    Unknown,
-    /// Nothing, or the beginning of a command.
-    Cut,
+// The entry of a command byte and the operands that are there; the others are 0.
+fn entry_of(byte: u8, given: &[u8]) -> Entry
+    ensures { result ≡ entry_of byte given.now }
+{
+    let operand = |k: usize| given.get(k).copied().unwrap_or(0);
+    Entry::new(
+        byte,
+        operand(0),
+        operand(1),
+        operand(2),
+        operand(3),
+        operand(4),
+    )
 }
 
-/// What stands at the front of the bytes.
-pub(crate) fn peek<'a>(bytes: &'a [u8]) -> Front<'a>
-    ensures { Fronts bytes.now result }
+// The whole command at the front, and the bytes after it. The end byte is no command.
+// A walk over bytes is little else, and takes a fifth longer where this is a call.
+#[tactic(auto, unfolding(crate::specs::Packed::packed))]
+#[inline(always)]
+pub(crate) fn first_command<'a>(bytes: &'a [u8]) -> Option<(Entry, &'a [u8])>
+    ensures { MatchOption result (packed bytes.now ≡ []) (λ front. FrontWhole bytes.now front.0 front.1.now) }
 {
-    let [byte, after @ ..] = bytes else {
-        return Front::Cut;
-    };
-    if *byte == END {
-        return Front::End { rest: after };
-    }
-    match Command::of(*byte) {
-        Some(command) => operands(*byte, command, after),
-        None => Front::Unknown,
-    }
+    let (byte, after) = bytes.split_first()?;
+    let command = Command::try_from(*byte).ok()?;
+    let (given, rest) = after.split_at_checked(command.operands())?;
+    Some((entry_of(*byte, given), rest))
 }
 
-// A whole command of the entry's bytes, with what follows them.
-fn whole<'a>(entry: Entry, rest: &'a [u8]) -> Front<'a>
-    ensures { result ≡ Whole entry rest.entry }
-{
-    Front::Whole { entry, rest }
+// The entries that the bytes mean, one by one.
+#[derive(Drop)]
+struct Commands<'a> {
+    rest: &'a [u8],
 }
 
-// The command with the operands that it takes from the bytes after it.
-fn operands<'a>(byte: u8, command: Command, bytes: &'a [u8]) -> Front<'a>
-    requires { command_of byte ≡ Some command }
-    ensures { Fronts (byte ∷ bytes.now) result }
-{
-    match command.operands() {
-        0 => whole(Entry::new(byte, 0, 0, 0, 0, 0), bytes),
-        1 => match bytes {
-            [a, rest @ ..] => whole(Entry::new(byte, *a, 0, 0, 0, 0), rest),
-            _ => Front::Cut,
-        },
-        2 => match bytes {
-            [a, b, rest @ ..] => whole(Entry::new(byte, *a, *b, 0, 0, 0), rest),
-            _ => Front::Cut,
-        },
-        3 => match bytes {
-            [a, b, c, rest @ ..] => whole(Entry::new(byte, *a, *b, *c, 0, 0), rest),
-            _ => Front::Cut,
-        },
-        _ => match bytes {
-            [a, b, c, d, e, rest @ ..] => whole(Entry::new(byte, *a, *b, *c, *d, *e), rest),
-            _ => Front::Cut,
-        },
+impl<'a> Iterator for Commands<'a> {
+    type Item = Entry;
+
+    ghost next_gives = { YieldsFirst (λ s. packed s.rest.now) };
+
+    ghost remaining = { item_count (λ s. packed s.rest.now) };
+
+    fn next(&mut self) -> Option<Entry> {
+        let (entry, rest) = first_command(self.rest)?;
+        self.rest = rest;
+        Some(entry)
     }
 }
 
@@ -83,29 +69,10 @@ impl<'a> SheetSource for Packed<'a> {
     ghost entries = { λ s. packed s.bytes.now };
 
     fn count(&self) -> usize {
-        let mut rest = self.bytes;
-        let mut n = 0;
-        while let Front::Whole {
-            entry: _,
-            rest: after,
-        } = peek(rest)
-        {
-            rest = after;
-            n += 1;
-        }
-        n
+        Commands { rest: self.bytes }.count()
     }
 
     fn entry(&self, k: usize) -> Option<Entry> {
-        let mut rest = self.bytes;
-        let mut left = k;
-        while let Front::Whole { entry, rest: after } = peek(rest) {
-            if left == 0 {
-                return Some(entry);
-            }
-            rest = after;
-            left -= 1;
-        }
-        None
+        Commands { rest: self.bytes }.nth(k)
     }
 }

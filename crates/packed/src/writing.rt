@@ -9,50 +9,37 @@ use refusals::{Reason, Refusal};
 use sheet::check::check;
 use sheet::command::Command;
 use sheet::entry::Entry;
-use sheet::source::SheetSource;
+use sheet::source::{Entries, SheetSource};
 
 // How many bytes the entry takes.
+#[tactic(auto, using(crate::proofs::Packing::length_bytes))]
 fn width(entry: Entry) -> usize
     ensures { result ≡ length (bytes_of entry) }
 {
-    match Command::of(entry.command) {
-        Some(command) => 1 + command.operands(),
-        None => 1,
-    }
+    1 + Command::try_from(entry.command).map_or(0, Command::operands)
 }
 
 // Whether the entries take fewer than `room` bytes.
 fn fits<S: SheetSource>(source: &S, room: usize) -> bool
     ensures { result ≡ nat_lt (length (flat_map bytes_of (S.entries source.now))) room }
 {
-    let mut left = room;
-    for k in 0..source.count() {
-        match source.entry(k) {
-            Some(entry) => {
-                let n = width(entry);
-                if left < n {
-                    return false;
-                }
-                left -= n;
-            }
-            None => unreachable(),
-        }
-    }
-    left > 0
+    Entries::of(source)
+        .try_fold(room, |left, entry| left.checked_sub(width(entry)))
+        .is_some_and(|left| left > 0)
 }
 
 // Writes the entry's bytes from `at` on, and answers where they end.
+#[tactic(auto, using(crate::proofs::Packing::width_most, crate::proofs::Packing::length_bytes, crate::proofs::Laying::first_bytes))]
 fn put(buffer: &mut [u8], at: usize, e: Entry) -> usize
     requires { at + length (bytes_of e) ≤ length buffer.old }
     ensures end { result ≡ at + length (bytes_of e) }
     ensures after { buffer.new ≡ take at buffer.old ++ bytes_of e ++ drop (at + length (bytes_of e)) buffer.old }
 {
-    let n = width(e);
-    buffer[at] = e.command;
-    for i in 1..n {
-        buffer[at + i] = e.operand(i - 1);
-    }
-    at + n
+    let all = [e.command, e.a, e.b, e.c, e.d, e.e];
+    let bytes = &all[..width(e)];
+    let end = at + bytes.len();
+    buffer[at..end].copy_from_slice(bytes);
+    end
 }
 
 /// Writes the packed form at the start of the buffer and answers its number of bytes.
@@ -62,17 +49,11 @@ pub fn write<S: SheetSource>(source: &S, buffer: &mut [u8]) -> Result<usize, Ref
 {
     check(source)?;
     if !fits(source, buffer.len()) {
-        return Err(Refusal {
-            reason: Reason::Short,
-            place: 0,
-        });
+        return Err(Reason::Short.into());
     }
     let mut at = 0;
-    for k in 0..source.count() {
-        match source.entry(k) {
-            Some(entry) => at = put(buffer, at, entry),
-            None => unreachable(),
-        }
+    for entry in Entries::of(source) {
+        at = put(buffer, at, entry);
     }
     buffer[at] = END;
     Ok(at + 1)
