@@ -14,7 +14,6 @@ use groups::Group;
 use groups::renaming::Renaming;
 use groups::tick::Tick;
 use line::{Line, parse};
-use refusals::Refusal;
 use std::io;
 use std::io::{BufRead, BufReader};
 use union_find::link::Link;
@@ -40,14 +39,10 @@ fn started(text: &str) -> Option<Book> {
 fn print_opening<M: Group + Wording>(
     rt: &impl Print,
     number: u64,
-    table: &mut [Link<M>],
+    table: &mut [Link<M>; MEMBERS],
 ) -> io::Result<()> {
-    match open(table) {
-        Ok(()) => println!(rt; "line {number}: {}", M::SUBJECT),
-        Err(Refusal { reason, .. }) => {
-            println!(rt; "line {number}: refused: {reason} ({})", reason.number())
-        }
-    }
+    open(table).unwrap();
+    println!(rt; "line {number}: {}", M::SUBJECT)
 }
 
 fn print_unreadable(rt: &impl Print, number: u64) -> io::Result<()> {

@@ -4,7 +4,7 @@ use crate::sample::{Sample, byte, next};
 use groups::Group;
 use groups::renaming::Renaming;
 use union_find::link::{Link, Related};
-use union_find::{open, relate, relation};
+use union_find::{MEMBERS, open, relate, relation};
 
 const SEED: u64 = 47;
 
@@ -44,11 +44,10 @@ pub fn lawful(a: Renaming, b: Renaming) -> u64 {
 }
 
 // What is known of two members, as a number.
-fn told<M: Sample>(table: &[Link<M>], i: u8, j: u8) -> u64 {
-    match relation(table, usize::from(i), usize::from(j)) {
-        Ok(Some(g)) => g.into(),
-        Ok(None) => 1,
-        Err(_) => 2,
+fn told<M: Sample>(table: &[Link<M>; MEMBERS], i: u8, j: u8) -> u64 {
+    match relation(table, usize::from(i), usize::from(j)).unwrap() {
+        Some(g) => g.into(),
+        None => 1,
     }
 }
 
@@ -68,10 +67,8 @@ fn learn<M: Sample>(table: &mut [Link<M>], facts: &[Fact<M>]) -> u64 {
 }
 
 /// Asks for two members each time, after the facts.
-pub fn questions<M: Sample>(table: &mut [Link<M>], facts: &[Fact<M>], count: u64) -> u64 {
-    if open(table).is_err() {
-        return 0;
-    }
+pub fn questions<M: Sample>(table: &mut [Link<M>; MEMBERS], facts: &[Fact<M>], count: u64) -> u64 {
+    open(table).unwrap();
     let mut x = learn(table, facts);
     for _ in 0..count {
         x = next(x ^ told(table, byte(x, 56), byte(x, 48)));
@@ -80,12 +77,10 @@ pub fn questions<M: Sample>(table: &mut [Link<M>], facts: &[Fact<M>], count: u64
 }
 
 /// Opens the table and tells it the facts each time, until `count` facts are told; then asks a question.
-pub fn rounds<M: Sample>(table: &mut [Link<M>], facts: &[Fact<M>], count: u64) -> u64 {
+pub fn rounds<M: Sample>(table: &mut [Link<M>; MEMBERS], facts: &[Fact<M>], count: u64) -> u64 {
     let mut x = SEED;
     for _ in 0..count / 255 {
-        if open(table).is_err() {
-            return 0;
-        }
+        open(table).unwrap();
         x = next(x ^ learn(table, facts));
         x = next(x ^ told(table, byte(x, 56), byte(x, 48)));
     }
