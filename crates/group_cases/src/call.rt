@@ -1,5 +1,4 @@
 //! The calls that lines name.
-use crate::numbered::Numbered;
 use std::str::SplitWhitespace;
 
 /// A call at one kind of moves.
@@ -15,16 +14,18 @@ pub enum Call<M> {
     Relation(usize, usize),
 }
 
-fn next_move<M: Numbered>(words: &mut SplitWhitespace<'_>) -> Option<M> {
+fn next_move<M: Copy + TryFrom<u64, Error: Drop>>(words: &mut SplitWhitespace<'_>) -> Option<M> {
     let number = u64::from_str_radix(words.next()?, 16).ok()?;
-    M::of_number(number)
+    M::try_from(number).ok()
 }
 
 fn next_number(words: &mut SplitWhitespace<'_>) -> Option<usize> {
     words.next()?.parse::<usize>().ok()
 }
 
-fn next_call<M: Numbered>(words: &mut SplitWhitespace<'_>) -> Option<Call<M>> {
+fn next_call<M: Copy + TryFrom<u64, Error: Drop>>(
+    words: &mut SplitWhitespace<'_>,
+) -> Option<Call<M>> {
     let call = match words.next()? {
         "identity" => Call::Identity,
         "lawful" => Call::Lawful(next_move(words)?),
@@ -40,7 +41,7 @@ fn next_call<M: Numbered>(words: &mut SplitWhitespace<'_>) -> Option<Call<M>> {
 }
 
 /// The call that a text names.
-pub fn parse<M: Numbered>(text: &str) -> Option<Call<M>> {
+pub fn parse<M: Copy + TryFrom<u64, Error: Drop>>(text: &str) -> Option<Call<M>> {
     let mut words = text.split_whitespace();
     let call = next_call(&mut words)?;
     match words.next() {

@@ -17,18 +17,16 @@
 
 mod answer;
 mod call;
-mod fault;
 mod names;
-mod numbered;
 
 use answer::answer_to;
-use call::parse;
-use fault::Fault;
+use call::{Call, parse};
+use faults::Fault;
 use groups::Group;
 use groups::renaming::Renaming;
 use groups::tick::Tick;
-use numbered::Numbered;
-use std::alloc::Global;
+use refusals::Refusal;
+use std::alloc::{AllocError, Global};
 use std::io;
 use std::io::{BufRead, BufReader};
 use union_find::link::Link;
@@ -39,17 +37,32 @@ struct Tables {
     renamings: Vec<Link<Renaming>>,
 }
 
-// The answer to a line of one kind.
-fn answered<M: Group + Numbered>(
+// A table of n entries of which each but the first says something, so that opening has something to forget.
+fn full_table<M: Group>(heap: Global, n: usize) -> Result<Vec<Link<M>>, AllocError> {
+    let link = Link {
+        parent: 0,
+        step: M::identity(),
+    };
+    vec![in heap; link; n]
+}
+
+// The answer to a line of one kind; opening makes a new table.
+fn answered<M: Group + Into<u64> + TryFrom<u64, Error: Drop>>(
     heap: Global,
     table: &mut Vec<Link<M>>,
     text: &str,
 ) -> Result<String, Fault> {
-    let Some(call) = parse(text) else {
-        return Err(Fault::Malformed);
+    let call = parse(text).ok_or(Fault::Malformed)?;
+    if let Call::Open(n) = call {
+        *table = full_table(heap, n)?;
+    }
+    let text = match answer_to(table.as_mut_slice(), call) {
+        Ok(answer) => format!(in heap; "{answer}")?,
+        Err(Refusal { reason, place }) => {
+            format!(in heap; "refused {} {reason} {place}", reason.number())?
+        }
     };
-    let answer = answer_to(heap, table, call)?;
-    Ok(format!(in heap; "{answer}")?)
+    Ok(text)
 }
 
 fn outcome(heap: Global, tables: &mut Tables, line: &str) -> Result<String, Fault> {

@@ -1,9 +1,10 @@
 //! Renamings of names, packed into a number.
-ghost use Rattle.std.specs.Prelude.{◌≡◌};
+ghost use Rattle.std.specs.Prelude.{◌≡◌, Ok};
 ghost use Rattle.groups.specs.Renamings.{image as image_of, LawfulRenaming, identity_renaming, compose_renamings, inverse_renaming, exchange as exchanged};
 ghost use Rattle.groups.specs.RenamingsLemmas.{renaming_laws};
 
 use crate::Group;
+use std::convert::Infallible;
 
 /// How many names there are: 0 to NAMES - 1.
 pub const NAMES: u8 = 10;
@@ -90,5 +91,24 @@ impl Group for Renaming {
 
     fn equals(self, other: Renaming) -> bool {
         self.bits == other.bits
+    }
+}
+
+impl From<Renaming> for u64 {
+    ghost from_gives = { λ x n. n ≡ x.bits };
+
+    fn from(renaming: Renaming) -> u64 {
+        renaming.bits
+    }
+}
+
+/// Every number is a renaming, lawful or not; generic code reads it as it reads a tick.
+impl TryFrom<u64> for Renaming {
+    type Error = Infallible;
+
+    ghost try_from_gives = { λ n r. r ≡ Ok (record { bits = n }) };
+
+    fn try_from(bits: u64) -> Result<Renaming, Infallible> {
+        Ok(Renaming { bits })
     }
 }

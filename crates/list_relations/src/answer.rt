@@ -58,16 +58,13 @@ impl<M: Wording> fmt::Display for Reply<M> {
             }
             Answer::Told(Ok(Some(told))) => told.say_fact(i, j, f),
             Answer::Told(Ok(None)) => {
-                let member = M::member();
+                let member = M::MEMBER;
                 write!(f, "nothing is known of {member} {i} and {member} {j}")
             }
-            Answer::Learned(_, Err(refusal)) => say_refusal(refusal, f),
-            Answer::Told(Err(refusal)) => say_refusal(refusal, f),
+            Answer::Learned(_, Err(refusal)) | Answer::Told(Err(refusal)) => {
+                let Refusal { reason, .. } = refusal;
+                write!(f, "refused: {reason} ({})", reason.number())
+            }
         }
     }
-}
-
-fn say_refusal<W: fmt::Write>(refusal: Refusal, f: &mut fmt::Formatter<W>) -> fmt::Result {
-    let word = refusal.reason.word();
-    write!(f, "refused: {word} ({})", refusal.reason.number())
 }

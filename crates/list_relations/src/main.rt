@@ -14,48 +14,35 @@ use groups::Group;
 use groups::renaming::Renaming;
 use groups::tick::Tick;
 use line::{Line, parse};
-use refusals::Refusal;
 use std::io;
 use std::io::{BufRead, BufReader};
 use union_find::link::Link;
 use union_find::{MEMBERS, open, root_link};
 use wording::Wording;
 
-#[derive(Clone, Copy)]
-enum Subject {
-    Delays,
-    Zones,
-}
-
-// What was learned, and what the lines speak of at present.
+// What was learned of what the lines speak of.
 #[derive(Drop)]
-struct Book {
-    subject: Option<Subject>,
-    delays: [Link<Tick>; MEMBERS],
-    zones: [Link<Renaming>; MEMBERS],
+enum Book {
+    Delays([Link<Tick>; MEMBERS]),
+    Zones([Link<Renaming>; MEMBERS]),
 }
 
-fn heading(text: &str) -> Option<Subject> {
+// The book that a heading starts.
+fn started(text: &str) -> Option<Book> {
     match text.trim() {
-        "delays" => Some(Subject::Delays),
-        "zones" => Some(Subject::Zones),
+        "delays" => Some(Book::Delays([root_link(); MEMBERS])),
+        "zones" => Some(Book::Zones([root_link(); MEMBERS])),
         _ => None,
     }
 }
 
-// Starts afresh.
 fn print_opening<M: Group + Wording>(
     rt: &impl Print,
     number: u64,
-    table: &mut [Link<M>],
+    table: &mut [Link<M>; MEMBERS],
 ) -> io::Result<()> {
-    match open(table) {
-        Ok(()) => println!(rt; "line {number}: {}", M::subject()),
-        Err(Refusal { reason, .. }) => {
-            let word = reason.word();
-            println!(rt; "line {number}: refused: {word} ({})", reason.number())
-        }
-    }
+    open(table).unwrap();
+    println!(rt; "line {number}: {}", M::SUBJECT)
 }
 
 fn print_unreadable(rt: &impl Print, number: u64) -> io::Result<()> {
@@ -77,30 +64,30 @@ fn print_reply<M: Group + Wording>(
     println!(rt; "line {number}: {}", Reply { i, j, answer })
 }
 
-fn print_answer(rt: &impl Print, number: u64, book: &mut Book, text: &str) -> io::Result<()> {
-    if let Some(subject) = heading(text) {
-        book.subject = Some(subject);
-        return match subject {
-            Subject::Delays => print_opening(rt, number, &mut book.delays),
-            Subject::Zones => print_opening(rt, number, &mut book.zones),
+// Answers a line; a heading starts the book afresh.
+fn print_answer(
+    rt: &impl Print,
+    number: u64,
+    book: &mut Option<Book>,
+    text: &str,
+) -> io::Result<()> {
+    if let Some(opened) = started(text) {
+        return match book.insert(opened) {
+            Book::Delays(table) => print_opening(rt, number, table),
+            Book::Zones(table) => print_opening(rt, number, table),
         };
     }
-    match book.subject {
-        Some(Subject::Delays) => print_reply(rt, number, &mut book.delays, text),
-        Some(Subject::Zones) => print_reply(rt, number, &mut book.zones, text),
+    match book {
+        Some(Book::Delays(table)) => print_reply(rt, number, table, text),
+        Some(Book::Zones(table)) => print_reply(rt, number, table, text),
         None => print_unreadable(rt, number),
     }
 }
 
 fn main(rt: HostRuntime) -> io::Result<()> {
-    let mut book = Book {
-        subject: None,
-        delays: [root_link(); MEMBERS],
-        zones: [root_link(); MEMBERS],
-    };
-    let mut number: u64 = 0;
-    for line in BufReader::new(rt.alloc(), rt.stdin())?.lines(rt.alloc()) {
-        number = number.saturating_add(1);
+    let mut book = None;
+    let lines = BufReader::new(rt.alloc(), rt.stdin())?.lines(rt.alloc());
+    for (number, line) in (1u64..).zip(lines) {
         print_answer(&rt, number, &mut book, line?.as_str())?;
     }
     Ok(())

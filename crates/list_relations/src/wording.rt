@@ -1,19 +1,19 @@
 //! How moves are read from a line and said in an answer.
-ghost use Rattle.std.specs.Prelude.{◌≡◌, ℕ, ◌+◌, ◌<◌, length, IfSome, slice_index_or};
-ghost use Rattle.groups.specs.Renamings.{names, image as image_of};
+ghost use Rattle.std.specs.Prelude.{◌-◌, SomeIff};
+ghost use Rattle.list_relations.specs.Spellings.{IsDigit, IsSpelling, spelled};
 
 use groups::Group;
 use groups::renaming::{NAMES, Renaming};
 use groups::tick::Tick;
 use std::fmt;
 
-/// A move that lines tell of.
+/// A move that lines tell of. The moves are another crate's types, so this one cannot give them `FromStr` and `Display`.
 pub trait Wording: Copy {
     /// What the lines speak of.
-    fn subject() -> &'static str;
+    const SUBJECT: &'static str;
 
     /// What a member is called.
-    fn member() -> &'static str;
+    const MEMBER: &'static str;
 
     /// The move that a word stands for.
     fn read(word: &str) -> Option<Self>;
@@ -26,13 +26,9 @@ pub trait Wording: Copy {
 }
 
 impl Wording for Tick {
-    fn subject() -> &'static str {
-        "delays between segments"
-    }
+    const SUBJECT: &'static str = "delays between segments";
 
-    fn member() -> &'static str {
-        "segment"
-    }
+    const MEMBER: &'static str = "segment";
 
     fn read(word: &str) -> Option<Tick> {
         let count = word.parse::<u32>().ok()?;
@@ -60,7 +56,7 @@ impl Wording for Tick {
 
 // What a digit stands for.
 fn value(c: u8) -> Option<u8>
-    ensures { IfSome result (λ v. (v < 10) × (48 + v ≡ c)) }
+    ensures { SomeIff result (IsDigit c) (c - 48) }
 {
     match c {
         b'0'..=b'9' => Some(c - b'0'),
@@ -70,27 +66,22 @@ fn value(c: u8) -> Option<u8>
 
 // The renaming whose images are these digits, the image of name 0 first.
 fn renaming_of(digits: &[u8]) -> Option<Renaming>
-    ensures { IfSome result (λ x. (length digits.now ≡ names) × ((k d : ℕ) → k < names → 48 + image_of x.bits k ≡ slice_index_or digits.now k d)) }
+    ensures { SomeIff result (IsSpelling digits.now) (spelled digits.now) }
 {
     if digits.len() != usize::from(NAMES) {
         return None;
     }
     let mut bits: u64 = 0;
-    for k in 0..NAMES {
-        let image = value(digits[usize::from(k)])?;
-        bits |= u64::from(image) << (4 * k);
+    for (k, c) in digits.iter().enumerate() {
+        bits |= u64::from(value(*c)?) << (4 * k);
     }
     Some(Renaming { bits })
 }
 
 impl Wording for Renaming {
-    fn subject() -> &'static str {
-        "zones of kilns"
-    }
+    const SUBJECT: &'static str = "zones of kilns";
 
-    fn member() -> &'static str {
-        "kiln"
-    }
+    const MEMBER: &'static str = "kiln";
 
     fn read(word: &str) -> Option<Renaming> {
         renaming_of(word.as_bytes())

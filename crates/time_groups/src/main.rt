@@ -5,16 +5,13 @@
 
 mod chains;
 mod fact;
-mod operation;
 mod sample;
 
-use chains::{operations, questions, rounds};
+use chains::{eighth_image, lawful, operations, questions, rounds};
 use fact::{falling_facts, random_facts};
 use groups::Group;
 use groups::renaming::Renaming;
 use groups::tick::Tick;
-use operation::{Compose, Image, Inverse, Lawful, Nothing};
-use sample::Sample;
 use std::alloc::{AllocError, Global};
 use std::io;
 use std::io::{BufRead, BufReader};
@@ -27,60 +24,33 @@ struct Tables {
     renamings: [Link<Renaming>; MEMBERS],
 }
 
-fn relation_results<M: Group + Sample>(
-    heap: Global,
-    table: &mut [Link<M>],
-    count: u64,
-) -> Result<u64, AllocError> {
-    let facts = random_facts(heap, 240)?;
-    Ok(questions(table, facts.as_slice(), count))
-}
-
-fn relate_results<M: Group + Sample>(
-    heap: Global,
-    table: &mut [Link<M>],
-    count: u64,
-) -> Result<u64, AllocError> {
-    let facts = random_facts(heap, 255)?;
-    Ok(rounds(table, facts.as_slice(), count))
-}
-
-fn falling_results<M: Group + Sample>(
-    heap: Global,
-    table: &mut [Link<M>],
-    count: u64,
-) -> Result<u64, AllocError> {
-    let facts = falling_facts(heap)?;
-    Ok(rounds(table, facts.as_slice(), count))
-}
-
-fn results(
-    heap: Global,
-    tables: &mut Tables,
-    operation: &str,
-    count: u64,
-) -> Result<Option<u64>, AllocError> {
-    let number = match operation {
-        "nothing" => operations::<Nothing>(count),
-        "compose" => operations::<Compose>(count),
-        "inverse" => operations::<Inverse>(count),
-        "image" => operations::<Image>(count),
-        "lawful" => operations::<Lawful>(count),
-        "relation-tick" => relation_results(heap, &mut tables.ticks, count)?,
-        "relation-renaming" => relation_results(heap, &mut tables.renamings, count)?,
-        "relate-tick" => relate_results(heap, &mut tables.ticks, count)?,
-        "relate-renaming" => relate_results(heap, &mut tables.renamings, count)?,
-        "falling-tick" => falling_results(heap, &mut tables.ticks, count)?,
-        "falling-renaming" => falling_results(heap, &mut tables.renamings, count)?,
-        _ => return Ok(None),
-    };
-    Ok(Some(number))
-}
-
 // An operation and how often it is run.
 fn parse(line: &str) -> Option<(&str, u64)> {
     let (operation, count) = line.split_once(' ')?;
     Some((operation, count.parse::<u64>().ok()?))
+}
+
+// The number that a line asks for, if it names an operation.
+fn results(heap: Global, tables: &mut Tables, line: &str) -> Result<Option<u64>, AllocError> {
+    let Tables { ticks, renamings } = tables;
+    let Some((operation, count)) = parse(line) else {
+        return Ok(None);
+    };
+    let number = match operation {
+        "nothing" => operations(|a, b| a.bits ^ b.bits, count),
+        "compose" => operations(|a, b| a.compose(b).bits, count),
+        "inverse" => operations(|a, b| a.inverse().bits ^ b.bits, count),
+        "image" => operations(eighth_image, count),
+        "lawful" => operations(lawful, count),
+        "relation-tick" => questions(ticks, random_facts(heap, 240)?.as_slice(), count),
+        "relation-renaming" => questions(renamings, random_facts(heap, 240)?.as_slice(), count),
+        "relate-tick" => rounds(ticks, random_facts(heap, 255)?.as_slice(), count),
+        "relate-renaming" => rounds(renamings, random_facts(heap, 255)?.as_slice(), count),
+        "falling-tick" => rounds(ticks, falling_facts(heap)?.as_slice(), count),
+        "falling-renaming" => rounds(renamings, falling_facts(heap)?.as_slice(), count),
+        _ => return Ok(None),
+    };
+    Ok(Some(number))
 }
 
 fn main(rt: HostRuntime) -> io::Result<()> {
@@ -91,8 +61,7 @@ fn main(rt: HostRuntime) -> io::Result<()> {
     };
     for line in BufReader::new(heap, rt.stdin())?.lines(heap) {
         let line = line?;
-        let (operation, count) = parse(line.as_str()).unwrap_or(("", 0));
-        match results(heap, &mut tables, operation, count)? {
+        match results(heap, &mut tables, line.as_str())? {
             Some(number) => println!(rt; "{line} {number:016X}")?,
             None => println!(rt; "{line} is no operation")?,
         }

@@ -15,10 +15,8 @@ pub fn byte(x: u64, at: u32) -> u8 {
 }
 
 /// A move that is drawn from a number, and gives one.
-pub trait Sample: Copy {
+pub trait Sample: Group + Into<u64> {
     fn draw(x: u64) -> Self;
-
-    fn number(self) -> u64;
 }
 
 impl Sample for Tick {
@@ -26,10 +24,6 @@ impl Sample for Tick {
         Tick {
             count: ((x >> 16) & 0xffff_ffff) as u32,
         }
-    }
-
-    fn number(self) -> u64 {
-        u64::from(self.count)
     }
 }
 
@@ -44,9 +38,5 @@ impl Sample for Renaming {
             drawn = drawn.compose(Renaming::exchange(name, other as u8));
         }
         drawn
-    }
-
-    fn number(self) -> u64 {
-        self.bits
     }
 }
