@@ -8,9 +8,8 @@ hang-requires-else-b-a g c =
     let ne = c.requires.apart in
     record {
       room = c.requires.room;
-      member = c.requires.to;
       lower = omega arith;
-      fair = subst g.G.Group.lawful (sym (c.inverse.ensures f)) (g.met.G.Group.group.lawful_inverse _ f);
+      fair = subst g.G.Group.lawful (sym (c.inverse-step.ensures f)) (g.met.G.Group.group.lawful_inverse _ f);
     }
 
 pub returns-then-b-a : goal.returns-then-b-a
@@ -22,7 +21,7 @@ returns-then-b-a g c =
 
 pub returns-else-b-a : goal.returns-else-b-a
 returns-else-b-a g c =
-    let e = c.inverse.ensures c.across-step.ensures.fair ∙ ap g.G.Group.inverse c.across-step.ensures.is in
+    let e = c.inverse-step.ensures c.across-step.ensures.fair ∙ ap g.G.Group.inverse c.across-step.ensures.is in
     record {
       left = λ p. absurd (omega arith);
       right = λ p. subst (Hung g.G.Group _ _ _ _) e c.hang-else-b-a.ensures;
