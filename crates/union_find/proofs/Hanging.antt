@@ -6,31 +6,31 @@ use borrow.Rule.Slice.PartMut.{put_mid}
 use Rattle.groups.specs.declared.Group.{Ghosts}
 use Rattle.union_find.specs.declared.link.Link.{Link}
 use Rattle.union_find.specs.Facts.{members, Chain, With, old}
-use Rattle.union_find.specs.Tables.{Linked, Root, Flat, Joined, LiftedEntry, LeftEntry, Lifts, EachLifted, Lifted, Left, Hung, entry_of}
+use Rattle.union_find.specs.Tables.{Linked, Root, Flat, Joined, Lifts, EachLifted, Lifted, Left, Hung, entry_of}
 use Rattle.union_find.proofs.Algebra.{LawsOf, undo}
 use Rattle.union_find.proofs.Chains.{Sound, chain_append, chain_turn, chain_map, one, with_sound, with_new, with_map}
 use Rattle.union_find.proofs.Ways.{linked_sound, one_parent, one_step}
 
 -- what hangs by a in the entries s goes up one link more, up to entry n
-pub record Lifting {M : Type 0} (G : Ghosts M) (s s' : List (Link M)) (a : ℕ) (u : Link M) (n : ℕ) : Type 0 where
-  pub done : (k : ℕ) → k < n → Lifts G a u (entry_of G s k) (entry_of G s' k)
+pub record Lifting {M : Type 0} (G : Ghosts M) (s s' : List (Link M)) (a b : ℕ) (m : M) (n : ℕ) : Type 0 where
+  pub done : (k : ℕ) → k < n → Lifts G a b m (entry_of G s k) (entry_of G s' k)
   pub rest : (k : ℕ) → n ≤ k → entry_of G s' k ≡ entry_of G s k
 
 module _ {M : Type 0} {G : Ghosts M} where
   same_link : {t t' : List (Link M)} {k j : ℕ} {g : M} → entry_of G t' k ≡ entry_of G t k → Linked G t k j g → Linked G t' k j g
   same_link e f = record { member = f.member; lower = f.lower; fair = f.fair; there = e ∙ f.there }
 
-  pub lift_more : {s s' : List (Link M)} {a : ℕ} {u x : Link M} {n : ℕ} → Lifting G s s' a u n → n < length s' → (d : Link M) → Lifts G a u (get_or s' n d) x →
-      Lifting G s (set s' n x) a u (n + 1)
-  lift_more {s} {s'} {a} {u} {x} {n} I p d here = record {
+  pub lift_more : {s s' : List (Link M)} {a b : ℕ} {m : M} {x : Link M} {n : ℕ} → Lifting G s s' a b m n → n < length s' → (d : Link M) → Lifts G a b m (get_or s' n d) x →
+      Lifting G s (set s' n x) a b m (n + 1)
+  lift_more {s} {s'} {a} {b} {m} {x} {n} I p d here = record {
     done = below_more _ _
         (λ k q. let ne : k ≢ n = omega arith in rw get_or-set_other (I.done k q))
-        (rw get_or-set_same (subst (λ l. Lifts G a u l x) (get_or_default s' n d _ p ∙ I.rest n (omega arith)) here));
+        (rw get_or-set_same (subst (λ l. Lifts G a b m l x) (get_or_default s' n d _ p ∙ I.rest n (omega arith)) here));
     rest = λ k q. let ne : k ≢ n = omega arith in get_or-set_other s' n k x _ ne ∙ I.rest k (omega arith);
   }
 
-  -- entries a + 1 to members - 1 of t are s' now, and entry a is u
-  module _ (t s' : List (Link M)) (a : ℕ) (u : Link M) (E : EachLifted G (take (members - (a + 1)) (drop (a + 1) t)) s' a u) (p : a < members) (q : members ≤ length t) where
+  -- entries a + 1 to members - 1 of t are s' now, and entry a says b and m
+  module _ (t s' : List (Link M)) (a b : ℕ) (m : M) (E : EachLifted G (take (members - (a + 1)) (drop (a + 1) t)) s' a b m) (p : a < members) (q : members ≤ length t) where
     part_length : length s' ≡ members - (a + 1)
     part_length = E.length_kept ∙ search (rules, places)
 
@@ -55,12 +55,12 @@ module _ {M : Type 0} {G : Ghosts M} where
     )
 
     -- and one after that of a
-    after : (n : ℕ) → a + 1 + n < members → Lifted G t t' a u.parent u.step (a + 1 + n) ⊎ Left G t t' a (a + 1 + n)
+    after : (n : ℕ) → a + 1 + n < members → Lifted G t t' a b m (a + 1 + n) ⊎ Left G t t' a (a + 1 + n)
     after n r =
         let l : Link M = entry_of G t (a + 1 + n) in
         let now : (l' : Link M) → entry_of G s' n ≡ l' → (d : Link M) → get_or t' (a + 1 + n) d ≡ l' =
         λ l' e d. inside n d r ∙ get_or_default s' n d _ (let e = part_length in omega arith) ∙ e in
-        elim (subst (λ l. Lifts G a u l (entry_of G s' n)) (before n _ r) (E.each n (search (rules, places)))) [
+        elim (subst (λ l. Lifts G a b m l (entry_of G s' n)) (before n _ r) (E.each n (search (rules, places)))) [
           | inl (parent, fair, e) ↦
               inl (l.step, record { member = r; lower = omega arith; fair = fair; there = ap (λ p. record { parent = p; step = l.step }) parent }, now _ e)
           | inr (not_so, e) ↦
@@ -70,11 +70,14 @@ module _ {M : Type 0} {G : Ghosts M} where
               )
         ]
 
-    elsewhere : (k : ℕ) → k ≢ a → Lifted G t t' a u.parent u.step k ⊎ Left G t t' a k → Lifted G t (set t' a u) a u.parent u.step k ⊎ Left G t (set t' a u) a k
+    abbrev u : Link M
+    u = record { parent = b; step = m }
+
+    elsewhere : (k : ℕ) → k ≢ a → Lifted G t t' a b m k ⊎ Left G t t' a k → Lifted G t (set t' a u) a b m k ⊎ Left G t (set t' a u) a k
     elsewhere k ne (inl (h, f, e)) = inl (h, f, λ d. get_or-set_other t' a k u d ne ∙ e d)
     elsewhere k ne (inr (no_link, e)) = inr (no_link, λ d. get_or-set_other t' a k u d ne ∙ e d)
 
-    pub hang_hung : Hung G t (set t' a u) a u.parent u.step
+    pub hang_hung : Hung G t (set t' a u) a b m
     hang_hung = record {
       here = λ d. search (rules, places);
       others = λ k ne. elsewhere k ne (elim (cases_lt k (a + 1)) [
@@ -82,7 +85,7 @@ module _ {M : Type 0} {G : Ghosts M} where
         | inr r ↦ elim (cases_lt k members) [
           | inl r' ↦
               let e : a + 1 + (k - (a + 1)) ≡ k = omega arith in
-              subst (λ k. Lifted G t t' a u.parent u.step k ⊎ Left G t t' a k) e (after (k - (a + 1)) (omega arith))
+              subst (λ k. Lifted G t t' a b m k ⊎ Left G t t' a k) e (after (k - (a + 1)) (omega arith))
           | inr r' ↦ inr (left k (inr r'))
         ]
       ]);

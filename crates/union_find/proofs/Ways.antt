@@ -79,13 +79,12 @@ module _ {M : Type 0} (G : Ghosts M) (L : LawsOf G) {t : List (Link M)} where
 
   module _ {i j r s : ℕ} {x y : M} (w : Way G t i r x) (p : Root G t r) (v : Way G t j s y) (q : Root G t s) where
     -- what two ways up tell where they meet
-    pub told_some : r ≡ s → (z : M) → (lawful x → lawful y → z ≡ compose x (inverse y)) → Told (Chain G (Linked G t) i j) (Some z)
+    pub told_some : r ≡ s → (z : M) → z ≡ compose x (inverse y) → Told (Chain G (Linked G t) i j) (Some z)
     told_some e z is =
-        let is' = is (way_lawful w) (way_lawful v) in
         let v' : Way G t j r y = subst (λ n. Way G t j n y) (sym e) v in
         let chain = chain_append G L linked_sound (way_chain w) (chain_turn G L linked_sound (way_chain v')) in
-        one (subst (Chain G (Linked G t) i j) (sym is') chain)
-        (λ h c. solve_left G L h y x (chain_lawful G L linked_sound c) (way_lawful v) (sym (chain_move c w p v q)) ∙ sym is')
+        one (subst (Chain G (Linked G t) i j) (sym is) chain)
+        (λ h c. solve_left G L h y x (chain_lawful G L linked_sound c) (way_lawful v) (sym (chain_move c w p v q)) ∙ sym is)
 
     -- and where they do not
     pub told_none : (r ≡ s → ⊥) → Told (Chain G (Linked G t) i j) None

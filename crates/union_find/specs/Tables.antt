@@ -5,7 +5,7 @@
 --   Flat G t               what t says of a member it says by a root
 --   Way G t i r g          the way up from i to r
 --   across G x g y         the move that makes one root of another
---   EachLifted G s s' a u  what hangs by a in the entries s goes up one link more in s', by u
+--   EachLifted G s s' a b m   what hangs by a in the entries s goes up one link more in s', to b by m
 --   Joined G t t' i j g    t' has the chains of t with one fact more
 --   Hung G t t' a b m      the root a, with all that hang by it, hangs by b in t', and no other entry has changed
 --   Keeps G fs t           t stands for the facts fs
@@ -45,19 +45,13 @@ pub record Joined {M : Type 0} (G : Ghosts M) (t t' : List (Link M)) (i j : ℕ)
 abbrev pub across : {M : Type 0} → Ghosts M → M → M → M → M
 across G x g y = G.compose (G.inverse x) (G.compose g y)
 
--- an entry that hangs by a, where the link up from a is added
-abbrev pub LiftedEntry : {M : Type 0} → Ghosts M → ℕ → Link M → Link M → Link M → Type 0
-LiftedEntry G a u l l' = (l.parent ≡ a) × G.lawful l.step × (l' ≡ record { parent = u.parent; step = G.compose l.step u.step })
+-- an entry that hangs by a goes up one link more, to b by m, and any other is as it was
+abbrev pub Lifts : {M : Type 0} → Ghosts M → ℕ → ℕ → M → Link M → Link M → Type 0
+Lifts G a b m l l' =
+    ((l.parent ≡ a) × G.lawful l.step × (l' ≡ record { parent = b; step = G.compose l.step m })) ⊎ ((l.parent ≡ a → G.lawful l.step → ⊥) × (l' ≡ l))
 
--- and one that does not
-abbrev pub LeftEntry : {M : Type 0} → Ghosts M → ℕ → Link M → Link M → Type 0
-LeftEntry G a l l' = (l.parent ≡ a → G.lawful l.step → ⊥) × (l' ≡ l)
-
-abbrev pub Lifts : {M : Type 0} → Ghosts M → ℕ → Link M → Link M → Link M → Type 0
-Lifts G a u l l' = LiftedEntry G a u l l' ⊎ LeftEntry G a l l'
-
-pub record EachLifted {M : Type 0} (G : Ghosts M) (s s' : List (Link M)) (a : ℕ) (u : Link M) : Type 0 where
-  pub each : (k : ℕ) → k < length s → Lifts G a u (entry_of G s k) (entry_of G s' k)
+pub record EachLifted {M : Type 0} (G : Ghosts M) (s s' : List (Link M)) (a b : ℕ) (m : M) : Type 0 where
+  pub each : (k : ℕ) → k < length s → Lifts G a b m (entry_of G s k) (entry_of G s' k)
   pub length_kept : length s' ≡ length s
 
 -- entry k hung by a, and hangs by b in t'

@@ -6,10 +6,12 @@ ghost use Rattle.union_find.specs.Facts.{members, Fact, Chain, Among};
 ghost use Rattle.union_find.specs.Tables.{Linked, Root, Way, EachLifted, Hung, Keeps, across as across_of, root_link as root_entry};
 ghost use Rattle.union_find.specs.Calls.{Accepts, Refuses, refused, Opened, Tells, Answers, After, facts_after, OneTelling, OneAnswer};
 
+mod lawful;
 pub mod link;
 
 use groups::Group;
-use link::{Link, Related};
+use lawful::Lawful;
+use link::{Link, Related, Up};
 use refusals::{Reason, Refusal};
 
 /// Members are numbered from 0 to MEMBERS - 1.
@@ -40,88 +42,77 @@ fn pair(n: usize, i: usize, j: usize) -> Result<(u8, u8), Reason>
 }
 
 // What the table says of member i, if it says something.
-fn link_of<G: Group>(table: &[Link<G>], i: u8) -> Option<Link<G>>
-    ensures { MatchOption result (Root G.Group.own table.now i) (λ l. Linked G.Group.own table.now i l.parent l.step) }
+fn link_of<G: Group>(table: &[Link<G>], i: u8) -> Option<Up<G>>
+    ensures { MatchOption result (Root G.Group.own table.now i) (λ u. Linked G.Group.own table.now i u.parent u.step) }
 {
-    let l = *table.get(usize::from(i))?;
-    if l.parent < i && l.step.is_lawful() {
-        Some(l)
-    } else {
-        None
-    }
+    let link = *table.get(usize::from(i))?;
+    if link.parent < i { link.up() } else { None }
 }
 
 // The way up from member i, as one link to its root. In a table that was opened it is one link at most, and the loop makes no turn.
-fn climb<G: Group>(table: &[Link<G>], i: u8) -> Link<G>
+fn climb<G: Group>(table: &[Link<G>], i: u8) -> Up<G>
     ensures way { Way G.Group.own table.now i result.parent result.step }
     ensures root { Root G.Group.own table.now result.parent }
 {
     let Some(mut way) = link_of(table, i) else {
-        return Link {
+        return Up {
             parent: i,
-            step: G::identity(),
+            step: Lawful::identity(),
         };
     };
     while let Some(next) = link_of(table, way.parent) {
-        way = way.then(next);
+        way = way.then(&next);
     }
     way
 }
 
 // The move that makes a member of another, where their ways up meet.
-fn between<G: Group>(a: Link<G>, b: Link<G>) -> G
-    ensures { G.lawful a.step → G.lawful b.step → result ≡ G.compose a.step (G.inverse b.step) }
+fn between<G: Group>(a: &Up<G>, b: &Up<G>) -> G
+    ensures { result ≡ G.compose a.now.step (G.inverse b.now.step) }
 {
-    a.step.compose(b.step.inverse())
+    a.step.compose(&b.step.inverse()).get()
 }
 
 // What hangs by a, of the entries after a's own, goes up one link more.
-fn lift<G: Group>(entries: &mut [Link<G>], a: u8, up: Link<G>)
-    requires fair { G.lawful up.step }
-    ensures { EachLifted G.Group.own entries.old entries.new a up }
+fn lift<G: Group>(entries: &mut [Link<G>], a: u8, up: &Up<G>)
+    ensures { EachLifted G.Group.own entries.old entries.new a up.now.parent up.now.step }
 {
     for link in entries.iter_mut() {
-        if link.hangs_by(a) {
-            *link = link.then(up);
-        }
+        *link = link.lifted(a, up);
     }
 }
 
 // Hangs the root a by a smaller member, and by that also all that hung by a: so every way up stays one link long.
-fn hang<G: Group>(table: &mut [Link<G>], a: u8, up: Link<G>)
+fn hang<G: Group>(table: &mut [Link<G>], a: u8, up: &Up<G>)
     requires room { members ≤ length table.old }
-    requires lower { up.parent < a }
-    requires fair { G.lawful up.step }
-    ensures { Hung G.Group.own table.old table.new a up.parent up.step }
+    requires lower { up.now.parent < a }
+    ensures { Hung G.Group.own table.old table.new a up.now.parent up.now.step }
 {
     lift(&mut table[usize::from(a) + 1..MEMBERS], a, up);
-    table[usize::from(a)] = up;
+    table[usize::from(a)] = up.link();
 }
 
 // The move that makes the root a of the root b, where what hangs by a is what hangs by b moved by g.
-fn across<G: Group>(a: Link<G>, b: Link<G>, g: G) -> G
-    requires fair { G.lawful a.step × G.lawful b.step × G.lawful g }
-    ensures is { result ≡ across_of G.Group.own a.step g b.step }
-    ensures fair { G.lawful result }
+fn across<G: Group>(a: &Up<G>, b: &Up<G>, g: &Lawful<G>) -> Lawful<G>
+    ensures { result ≡ across_of G.Group.own a.now.step g.now b.now.step }
 {
-    a.step.inverse().compose(g.compose(b.step))
+    a.step.inverse().compose(&g.compose(&b.step))
 }
 
 // Joins the classes of two roots: the greater is hung by the smaller.
-fn join<G: Group>(table: &mut [Link<G>], a: Link<G>, b: Link<G>, g: G)
+fn join<G: Group>(table: &mut [Link<G>], a: &Up<G>, b: &Up<G>, g: &Lawful<G>)
     requires room { members ≤ length table.old }
-    requires apart { a.parent ≢ b.parent }
-    requires fair { G.lawful a.step × G.lawful b.step × G.lawful g }
-    ensures left { b.parent < a.parent → Hung G.Group.own table.old table.new a.parent b.parent (across_of G.Group.own a.step g b.step) }
-    ensures right { a.parent < b.parent → Hung G.Group.own table.old table.new b.parent a.parent (G.inverse (across_of G.Group.own a.step g b.step)) }
+    requires apart { a.now.parent ≢ b.now.parent }
+    ensures left { b.now.parent < a.now.parent → Hung G.Group.own table.old table.new a.now.parent b.now.parent (across_of G.Group.own a.now.step g.now b.now.step) }
+    ensures right { a.now.parent < b.now.parent → Hung G.Group.own table.old table.new b.now.parent a.now.parent (G.inverse (across_of G.Group.own a.now.step g.now b.now.step)) }
 {
     let step = across(a, b, g);
     if b.parent < a.parent {
         let parent = b.parent;
-        hang(table, a.parent, Link { parent, step });
+        hang(table, a.parent, &Up { parent, step });
     } else {
         let (parent, step) = (a.parent, step.inverse());
-        hang(table, b.parent, Link { parent, step });
+        hang(table, b.parent, &Up { parent, step });
     }
 }
 
@@ -156,7 +147,7 @@ pub fn relation<G: Group>(table: &[Link<G>], i: usize, j: usize) -> Result<Optio
     let a = climb(table, i);
     let b = climb(table, j);
     if a.parent == b.parent {
-        Ok(Some(between(a, b)))
+        Ok(Some(between(&a, &b)))
     } else {
         Ok(None)
     }
@@ -174,18 +165,18 @@ pub fn relate<G: Group>(
     ensures one { OneAnswer G.Group.own (Chain G.Group.own (Linked G.Group.own table.old) i j) (length table.old) i j g }
 {
     let (i, j) = pair(table.len(), i, j)?;
-    if !g.is_lawful() {
+    let Some(said) = Lawful::of(g) else {
         return Err(Reason::Unlawful.into());
-    }
+    };
     let a = climb(table, i);
     let b = climb(table, j);
     if a.parent == b.parent {
-        let told = between(a, b);
+        let told = between(&a, &b);
         if told.equals(g) {
             return Ok(Related::Known);
         }
         return Ok(Related::Clash(told));
     }
-    join(table, a, b, g);
+    join(table, &a, &b, &said);
     Ok(Related::New)
 }

@@ -1,6 +1,8 @@
 //! The entries of a union-find's table, and what comes of a fact.
-ghost use Rattle.std.specs.Prelude.{◌≡◌, MatchBool};
+ghost use Rattle.std.specs.Prelude.{◌≡◌, MatchOption};
+ghost use Rattle.union_find.specs.Tables.{Lifts};
 
+use crate::lawful::Lawful;
 use groups::Group;
 
 /// What a member is: `parent` moved by `step`. It says so only where the parent is a smaller member and the step lawful.
@@ -11,20 +13,57 @@ pub struct Link<G> {
 }
 
 impl<G: Group> Link<G> {
-    // Whether a member with this entry hangs by a smaller member, this one.
-    pub(crate) fn hangs_by(self, a: u8) -> bool
-        ensures { MatchBool result ((self.parent ≡ a) × G.lawful self.step) (self.parent ≡ a → G.lawful self.step → ⊥) }
+    // What it says, where the parent is a smaller member.
+    pub(crate) fn up(self) -> Option<Up<G>>
+        ensures { MatchOption result (G.lawful self.step → ⊥) (λ u. (u.parent ≡ self.parent) × (u.step ≡ self.step) × G.lawful self.step) }
     {
-        self.parent == a && self.step.is_lawful()
+        let step = Lawful::of(self.step)?;
+        Some(Up {
+            parent: self.parent,
+            step,
+        })
     }
 
+    // This entry, or one link further up where it hangs by a.
+    pub(crate) fn lifted(self, a: u8, up: &Up<G>) -> Link<G>
+        ensures { Lifts G.Group.own a up.now.parent up.now.step self result }
+    {
+        if self.parent != a {
+            return self;
+        }
+        match self.up() {
+            Some(first) => first.then(up).link(),
+            None => self,
+        }
+    }
+}
+
+/// A link whose step is lawful.
+#[derive(Drop)]
+pub(crate) struct Up<G: Group> {
+    pub(crate) parent: u8,
+    pub(crate) step: Lawful<G>,
+}
+
+impl<G: Group> Up<G> {
     // Up this link, and then up the next.
-    pub(crate) fn then(self, next: Link<G>) -> Link<G>
-        ensures { G.lawful self.step → G.lawful next.step → result ≡ record { parent = next.parent; step = G.compose self.step next.step } }
+    pub(crate) fn then(&self, next: &Up<G>) -> Up<G>
+        ensures parent { result.parent ≡ next.now.parent }
+        ensures step { result.step ≡ G.compose self.now.step next.now.step }
+    {
+        Up {
+            parent: next.parent,
+            step: self.step.compose(&next.step),
+        }
+    }
+
+    // The entry that says so.
+    pub(crate) fn link(&self) -> Link<G>
+        ensures { result ≡ record { parent = self.now.parent; step = self.now.step } }
     {
         Link {
-            parent: next.parent,
-            step: self.step.compose(next.step),
+            parent: self.parent,
+            step: self.step.get(),
         }
     }
 }
