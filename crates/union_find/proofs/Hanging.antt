@@ -61,11 +61,11 @@ module _ {M : Type 0} {G : Ghosts M} where
         let now : (l' : Link M) → entry_of G s' n ≡ l' → (d : Link M) → get_or t' (a + 1 + n) d ≡ l' =
         λ l' e d. inside n d r ∙ get_or_default s' n d _ (let e = part_length in omega arith) ∙ e in
         elim (subst (λ l. Lifts G a b m l (entry_of G s' n)) (before n _ r) (E.each n (search (rules, places)))) [
-          | inl (parent, fair, e) ↦
+          | inl ((parent, fair), e) ↦
               inl (l.step, record { member = r; lower = omega arith; fair = fair; there = ap (λ p. record { parent = p; step = l.step }) parent }, now _ e)
           | inr (not_so, e) ↦
               inr (
-                λ h f. not_so (ap (λ l. l.parent) f.there) (subst G.lawful (sym (ap (λ l. l.step) f.there)) f.fair),
+                λ h f. not_so (ap (λ l. l.parent) f.there, subst G.lawful (sym (ap (λ l. l.step) f.there)) f.fair),
                 λ d. now _ e d ∙ get_or_default t (a + 1 + n) _ d (omega arith),
               )
         ]

@@ -45,10 +45,13 @@ pub record Joined {M : Type 0} (G : Ghosts M) (t t' : List (Link M)) (i j : ℕ)
 abbrev pub across : {M : Type 0} → Ghosts M → M → M → M → M
 across G x g y = G.compose (G.inverse x) (G.compose g y)
 
+-- an entry that hangs by a: it says so of any greater member
+abbrev pub Hangs : {M : Type 0} → Ghosts M → ℕ → Link M → Type 0
+Hangs G a l = (l.parent ≡ a) × G.lawful l.step
+
 -- an entry that hangs by a goes up one link more, to b by m, and any other is as it was
 abbrev pub Lifts : {M : Type 0} → Ghosts M → ℕ → ℕ → M → Link M → Link M → Type 0
-Lifts G a b m l l' =
-    ((l.parent ≡ a) × G.lawful l.step × (l' ≡ record { parent = b; step = G.compose l.step m })) ⊎ ((l.parent ≡ a → G.lawful l.step → ⊥) × (l' ≡ l))
+Lifts G a b m l l' = (Hangs G a l × (l' ≡ record { parent = b; step = G.compose l.step m })) ⊎ ((Hangs G a l → ⊥) × (l' ≡ l))
 
 pub record EachLifted {M : Type 0} (G : Ghosts M) (s s' : List (Link M)) (a b : ℕ) (m : M) : Type 0 where
   pub each : (k : ℕ) → k < length s → Lifts G a b m (entry_of G s k) (entry_of G s' k)

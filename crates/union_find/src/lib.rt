@@ -78,7 +78,9 @@ fn lift<G: Group>(entries: &mut [Link<G>], a: u8, up: &Up<G>)
     ensures { EachLifted G.Group.own entries.old entries.new a up.now.parent up.now.step }
 {
     for link in entries.iter_mut() {
-        *link = link.lifted(a, up);
+        if let Some(lifted) = link.lifted(a, up) {
+            *link = lifted;
+        }
     }
 }
 

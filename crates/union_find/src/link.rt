@@ -1,6 +1,6 @@
 //! The entries of a union-find's table, and what comes of a fact.
 ghost use Rattle.std.specs.Prelude.{◌≡◌, MatchOption};
-ghost use Rattle.union_find.specs.Tables.{Lifts};
+ghost use Rattle.union_find.specs.Tables.{Hangs};
 
 use crate::lawful::Lawful;
 use groups::Group;
@@ -24,17 +24,14 @@ impl<G: Group> Link<G> {
         })
     }
 
-    // This entry, or one link further up where it hangs by a.
-    pub(crate) fn lifted(self, a: u8, up: &Up<G>) -> Link<G>
-        ensures { Lifts G.Group.own a up.now.parent up.now.step self result }
+    // This entry one link further up, if it hangs by a.
+    pub(crate) fn lifted(self, a: u8, up: &Up<G>) -> Option<Link<G>>
+        ensures { MatchOption result (Hangs G.Group.own a self → ⊥) (λ l. Hangs G.Group.own a self × (l ≡ record { parent = up.now.parent; step = G.compose self.step up.now.step })) }
     {
         if self.parent != a {
-            return self;
+            return None;
         }
-        match self.up() {
-            Some(first) => first.then(up).link(),
-            None => self,
-        }
+        Some(self.up()?.then(up).link())
     }
 }
 
