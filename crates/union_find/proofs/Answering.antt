@@ -1,17 +1,11 @@
 -- Refusals and acceptance, and that at most one answer fits.
-use Rattle.std.proofs.Common.{◌≡◌, ℕ, Some, Ok, Err, Option, Result, sym, refl, ap, inl, inr, arith}
-use Rattle.std.specs.Result.{IsErrAnd}
+use Rattle.std.proofs.Common.{◌≡◌, ℕ, Some, Ok, Err, Option, sym, refl, ap, inl, inr, arith}
 use Rattle.refusals.specs.declared.Refusal.{Refusal}
 use Rattle.groups.specs.declared.Group.{Ghosts}
 use Rattle.union_find.specs.declared.link.Related.{Related}
 use Rattle.union_find.specs.declared.link.Related.TheVariants.{New, Known, Clash}
 use Rattle.union_find.specs.Facts.{Told, nothing, one}
 use Rattle.union_find.specs.Calls.{Refuses, short, stranger, unlawful, Accepts, Settled, OneTelling, OneAnswer}
-
--- a refusal made by `?`
-pub err_is : {A : Type 0} {r : Result A Refusal} {e : Refusal} → IsErrAnd r (λ f. f ≡ e) → r ≡ Err e
-err_is {r = Ok a} h = absurd h
-err_is {r = Err f} h = ap Err h
 
 -- a refusal that comes before the move is looked at
 pub refuses_early : {n i j : ℕ} {e : Refusal} (L : Type 0) → Refuses n i j (Unit {0}) e → Refuses n i j L e

@@ -1,7 +1,7 @@
 -- A root and all that hang by it are hung by a smaller member: the chains are those with one fact more.
-use Rattle.std.proofs.Common.{◌≡◌, ℕ, ◌+◌, ◌<◌, ◌≤◌, ◌≢◌, ◌⊎◌, List, length, get_or, set, sym, refl, ap, ◌∙◌, subst, inl, inr, arith, get_or-set_other, get_or-set_same, below_more, rules, ◌-◌, take, drop}
+use Rattle.std.proofs.Common.{◌≡◌, ℕ, ◌+◌, ◌<◌, ◌≤◌, ◌≢◌, ◌⊎◌, List, length, get_or, set, sym, ap, ◌∙◌, subst, inl, inr, arith, get_or-set_other, get_or-set_same, below_more, rules, ◌-◌, take, drop}
 use Rattle.std.proofs.lemmas.Bool.{cases_eq, cases_lt}
-use Rattle.std.proofs.lemmas.List.{get_or_read, get_or_default, places}
+use Rattle.std.proofs.lemmas.List.{get_or_default, places}
 use borrow.Rule.Slice.PartMut.{put_mid}
 use Rattle.groups.specs.declared.Group.{Ghosts}
 use Rattle.union_find.specs.declared.link.Link.{Link}

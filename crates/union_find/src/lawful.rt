@@ -33,7 +33,9 @@ impl<G: Group> Lawful<G> {
     pub(crate) fn identity() -> Lawful<G>
         ensures { result ≡ G.identity }
     {
-        Lawful { element: G::identity() }
+        Lawful {
+            element: G::identity(),
+        }
     }
 
     pub(crate) fn compose(&self, other: &Lawful<G>) -> Lawful<G>

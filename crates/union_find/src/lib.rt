@@ -28,6 +28,12 @@ pub fn root_link<G: Group>() -> Link<G>
     }
 }
 
+fn member(i: usize) -> Result<u8, Reason>
+    ensures { MatchResult result (λ m. m ≡ i) (λ e. (members ≤ i) × (e ≡ Reason.Stranger)) }
+{
+    u8::try_from(i).map_err(|_| Reason::Stranger)
+}
+
 // Members i and j of a table of n entries.
 fn pair(n: usize, i: usize, j: usize) -> Result<(u8, u8), Reason>
     ensures { MatchResult result (λ p. Accepts n i j (Unit {0}) × (p.0 ≡ i) × (p.1 ≡ j)) (λ e. Refuses n i j (Unit {0}) (refused e)) }
@@ -35,10 +41,7 @@ fn pair(n: usize, i: usize, j: usize) -> Result<(u8, u8), Reason>
     if n < MEMBERS {
         return Err(Reason::Short);
     }
-    match (u8::try_from(i), u8::try_from(j)) {
-        (Ok(i), Ok(j)) => Ok((i, j)),
-        _ => Err(Reason::Stranger),
-    }
+    Ok((member(i)?, member(j)?))
 }
 
 // What the table says of member i, if it says something.

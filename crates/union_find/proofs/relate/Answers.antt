@@ -1,15 +1,17 @@
 use Rattle.std.proofs.Common.{sym, refl, ◌∙◌, subst}
+use Rattle.std.proofs.lemmas.Result.{err_from_is_err_and}
 use Rattle.union_find.specs.Calls.{Refuses, unlawful, Changed}
 use Rattle.union_find.proofs.Ways.{told_some, told_none, way_from}
 use Rattle.union_find.proofs.Joining.{changed_joined, changed_flat, changed_length}
 use Rattle.union_find.proofs.Keeping.{kept_told, kept_more}
-use Rattle.union_find.proofs.Answering.{err_is, refuses_early, accepts_move, one_answer}
+use Rattle.union_find.proofs.Answering.{refuses_early, accepts_move, one_answer}
 use Rattle.union_find.proofs.relate.Goals as goal
 
 pub returns-in_err-i : goal.returns-in_err-i
 returns-in_err-i g c =
     let no = refuses_early _ c.in_err-i.ensures in
-    rw (err_is c.from_residual.ensures.1) (record { facts = λ fs k. (no, k); table = (no, refl); one = one_answer _ g.G.Group _ _ _ _ })
+    let p = err_from_is_err_and c.from_residual.result c.from_residual.ensures.1 in
+    rw (p.1, p.2) (record { facts = λ fs k. (no, k); table = (no, refl); one = one_answer _ g.G.Group _ _ _ _ })
 
 pub returns-in_default : goal.returns-in_default
 returns-in_default g c =
