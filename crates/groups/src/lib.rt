@@ -1,14 +1,14 @@
 //! Groups: elements that are composed and undone, with the laws that a union-find rests on.
 #![tactic(auto)]
 
-ghost use Rattle.std.specs.Prelude.{◌≡◌, MatchBool, ◌≢◌};
+ghost use Rattle.std.specs.Prelude.{◌≡◌, MatchBool, ◌≢◌, true};
 ghost use Rattle.groups.specs.Laws.{Laws};
 
 pub mod renaming;
 pub mod tick;
 
 /// A group. Its laws hold of its lawful elements; what the calls answer for others is free.
-pub trait Group: Copy {
+pub trait Group: Copy + Eq {
     ghost lawful: { Self → Type 0 };
 
     ghost identity: { Self };
@@ -35,7 +35,13 @@ pub trait Group: Copy {
 
     /// Whether two elements are one.
     fn equals(self, other: Self) -> bool
-        ensures { MatchBool result (self ≡ other) (self ≢ other) };
+        ensures { MatchBool result (self ≡ other) (self ≢ other) }
+    {
+        self == other
+    }
 
     ghost group: { Laws lawful identity compose inverse };
+
+    // Equal is the same.
+    ghost same: { (a b : Self) → Self.eq a b ≡ true → a ≡ b };
 }

@@ -1,5 +1,6 @@
 //! Ticks: delays on a clock of 32 bits, which starts again after its last tick.
 ghost use Rattle.std.specs.Prelude.{◌≡◌, ◌<◌, ◌^◌, OkIff};
+ghost use Rattle.std.proofs.Common.{rules};
 ghost use Rattle.groups.specs.Ticks.{LawfulTick, no_ticks, add_ticks, minus_ticks, tick_laws};
 
 use crate::Group;
@@ -22,6 +23,8 @@ impl Group for Tick {
 
     ghost group = { tick_laws };
 
+    ghost same = { Prim.search rules };
+
     // Every number of 32 bits is a tick.
     fn is_lawful(self) -> bool {
         true
@@ -41,10 +44,6 @@ impl Group for Tick {
         Tick {
             count: self.count.wrapping_neg(),
         }
-    }
-
-    fn equals(self, other: Tick) -> bool {
-        self.count == other.count
     }
 }
 

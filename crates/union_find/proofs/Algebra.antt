@@ -1,5 +1,5 @@
 -- What follows from the laws of a group, for lawful elements.
-use Rattle.std.proofs.Common.{◌≡◌, sym, ap, ◌∙◌, subst}
+use Rattle.std.proofs.Common.{◌≡◌, sym, ap, ◌∙◌}
 use Rattle.groups.specs.Laws.{Laws}
 use Rattle.groups.specs.declared.Group.{Ghosts}
 use Rattle.union_find.specs.Tables.{across}
@@ -52,10 +52,3 @@ module _ {M : Type 0} (G : Ghosts M) (L : LawsOf G) where
 
   pub across_lawful : {x g y : M} → lawful x → lawful g → lawful y → lawful (across G x g y)
   across_lawful {x} {g} {y} p l q = L.lawful_compose (inverse x) (compose g y) (L.lawful_inverse x p) (L.lawful_compose g y l q)
-
-  -- the same, of moves that come out equal
-  pub across_is : {x g y : M} → lawful x → lawful g → lawful y → (r s z : M) → r ≡ inverse x → s ≡ compose g y → (lawful r → lawful s → z ≡ compose r s) →
-      z ≡ across G x g y
-  across_is {x} {g} {y} p l q r s z er es ez =
-      ez (subst lawful (sym er) (L.lawful_inverse x p)) (subst lawful (sym es) (L.lawful_compose g y l q))
-      ∙ ap (λ w. compose w s) er ∙ ap (compose (inverse x)) es

@@ -1,75 +1,95 @@
 -- A root and all that hang by it are hung by a smaller member: the chains are those with one fact more.
-use Rattle.std.proofs.Common.{◌≡◌, ℕ, ◌+◌, ◌<◌, ◌≤◌, ◌≢◌, ◌⊎◌, List, length, get_or, set, sym, refl, ap, ◌∙◌, subst, inl, inr, arith, length-set, get_or-set_other, get_or-set_same}
+use Rattle.std.proofs.Common.{◌≡◌, ℕ, ◌+◌, ◌<◌, ◌≤◌, ◌≢◌, ◌⊎◌, List, length, get_or, set, sym, ap, ◌∙◌, subst, inl, inr, arith, get_or-set_other, get_or-set_same, below_more, rules, ◌-◌, take, drop}
 use Rattle.std.proofs.lemmas.Bool.{cases_eq, cases_lt}
+use Rattle.std.proofs.lemmas.List.{get_or_default, places}
+use borrow.Rule.Slice.PartMut.{put_mid}
 use Rattle.groups.specs.declared.Group.{Ghosts}
 use Rattle.union_find.specs.declared.link.Link.{Link}
 use Rattle.union_find.specs.Facts.{members, Chain, With, old}
-use Rattle.union_find.specs.Tables.{Linked, Root, Flat, Joined, Lifted, Left, Hung, entry_of}
+use Rattle.union_find.specs.Tables.{Linked, Root, Flat, Joined, Lifts, EachLifted, Lifted, Left, Hung, entry_of}
 use Rattle.union_find.proofs.Algebra.{LawsOf, undo}
 use Rattle.union_find.proofs.Chains.{Sound, chain_append, chain_turn, chain_map, one, with_sound, with_new, with_map}
 use Rattle.union_find.proofs.Ways.{linked_sound, one_parent, one_step}
 
--- what hangs by a is hung by b, up to member n
-pub record Hanging {M : Type 0} (G : Ghosts M) (t t' : List (Link M)) (a b : ℕ) (m : M) (n : ℕ) : Type 0 where
-  pub done : (k : ℕ) → k < n → Lifted G t t' a b m k ⊎ Left G t t' a k
-  pub rest : (k : ℕ) (d : Link M) → n ≤ k → get_or t' k d ≡ get_or t k d
-  pub length_kept : length t' ≡ length t
+-- what hangs by a in the entries s goes up one link more, up to entry n
+pub record Lifting {M : Type 0} (G : Ghosts M) (s s' : List (Link M)) (a b : ℕ) (m : M) (n : ℕ) : Type 0 where
+  pub done : (k : ℕ) → k < n → Lifts G a b m (entry_of G s k) (entry_of G s' k)
+  pub rest : (k : ℕ) → n ≤ k → entry_of G s' k ≡ entry_of G s k
 
 module _ {M : Type 0} {G : Ghosts M} where
   same_link : {t t' : List (Link M)} {k j : ℕ} {g : M} → entry_of G t' k ≡ entry_of G t k → Linked G t k j g → Linked G t' k j g
   same_link e f = record { member = f.member; lower = f.lower; fair = f.fair; there = e ∙ f.there }
 
-  -- writing elsewhere
-  left_alone : {t : List (Link M)} (t' : List (Link M)) {a b : ℕ} {m : M} (n k : ℕ) (l : Link M) → k ≢ n → Lifted G t t' a b m k ⊎ Left G t t' a k →
-      Lifted G t (set t' n l) a b m k ⊎ Left G t (set t' n l) a k
-  left_alone t' n k l ne (inl (h, f, e)) = inl (h, f, λ d. get_or-set_other t' n k l d ne ∙ e d)
-  left_alone t' n k l ne (inr (none, e)) = inr (none, λ d. get_or-set_other t' n k l d ne ∙ e d)
+  pub lift_more : {s s' : List (Link M)} {a b : ℕ} {m : M} {x : Link M} {n : ℕ} → Lifting G s s' a b m n → n < length s' → (d : Link M) → Lifts G a b m (get_or s' n d) x →
+      Lifting G s (set s' n x) a b m (n + 1)
+  lift_more {s} {s'} {a} {b} {m} {x} {n} I p d here = record {
+    done = below_more _ _
+        (λ k q. let ne : k ≢ n = omega arith in rw get_or-set_other (I.done k q))
+        (rw get_or-set_same (subst (λ l. Lifts G a b m l x) (get_or_default s' n d _ p ∙ I.rest n (omega arith)) here));
+    rest = λ k q. let ne : k ≢ n = omega arith in get_or-set_other s' n k x _ ne ∙ I.rest k (omega arith);
+  }
 
-  module _ {t : List (Link M)} {a b : ℕ} {m : M} where
-    -- a parent is a smaller member
-    pub hang_start : Hanging G t t a b m (a + 1)
-    hang_start = record {
-      done = λ k p. inr ((λ h f. let l = f.lower in absurd (omega arith)), λ d. refl);
-      rest = λ k d p. refl;
-      length_kept = refl;
-    }
+  -- entries a + 1 to members - 1 of t are s' now, and entry a says b and m
+  module _ (t s' : List (Link M)) (a b : ℕ) (m : M) (E : EachLifted G (take (members - (a + 1)) (drop (a + 1) t)) s' a b m) (p : a < members) (q : members ≤ length t) where
+    part_length : length s' ≡ members - (a + 1)
+    part_length = E.length_kept ∙ search (rules, places)
 
-    module _ {t' : List (Link M)} {n : ℕ} (H : Hanging G t t' a b m n) where
-      pub hang_leave : ((h : M) → Linked G t' n a h → ⊥) → Hanging G t t' a b m (n + 1)
-      hang_leave none = record {
-        done = λ k p. elim (cases_eq k n) [
-          | inl e ↦
-              subst (λ k. Lifted G t t' a b m k ⊎ Left G t t' a k) (sym e)
-              (inr ((λ h f. none h (same_link (H.rest n _ (omega arith)) f)), λ d. H.rest n d (omega arith)))
-          | inr ne ↦ H.done k (omega arith)
-        ];
-        rest = λ k d p. H.rest k d (omega arith);
-        length_kept = H.length_kept;
-      }
+    outside : (k : ℕ) (d : Link M) → (k < a + 1) ⊎ (members ≤ k) → get_or (put_mid (a + 1) (members - (a + 1)) t s') k d ≡ get_or t k d
+    outside k d (inl r) = let e = part_length in search (rules, places)
+    outside k d (inr r) = let e = part_length in search (rules, places)
 
-      pub hang_lift : n < length t → {h : M} → Linked G t' n a h → (x : M) → x ≡ G.compose h m → Hanging G t (set t' n (record { parent = b; step = x })) a b m (n + 1)
-      hang_lift p {h} f x ex = record {
-        done = λ k q. elim (cases_eq k n) [
-          | inl e ↦
-              inl (
-                h,
-                subst (λ k. Linked G t k a h) (sym e) (same_link (sym (H.rest n _ (omega arith))) f),
-                λ d. let l = H.length_kept in ap (λ k. get_or (set t' n (record { parent = b; step = x })) k d) e ∙ get_or-set_same t' n _ d (omega arith) ∙ ap (λ x. record { parent = b; step = x }) ex,
+    inside : (n : ℕ) (d : Link M) → a + 1 + n < members → get_or (put_mid (a + 1) (members - (a + 1)) t s') (a + 1 + n) d ≡ get_or s' n d
+    inside n d r = let e = part_length in search (rules, places)
+
+    before : (n : ℕ) (d : Link M) → a + 1 + n < members → get_or (take (members - (a + 1)) (drop (a + 1) t)) n d ≡ get_or t (a + 1 + n) d
+    before n d r = search (rules, places)
+
+    abbrev t' : List (Link M)
+    t' = put_mid (a + 1) (members - (a + 1)) t s'
+
+    -- an entry that is as it was
+    left : (k : ℕ) → (k < a + 1) ⊎ (members ≤ k) → Left G t t' a k
+    left k r = (
+      λ h f. let low = f.lower in let high = f.member in elim r [ inl q ↦ absurd (omega arith) | inr q ↦ absurd (omega arith) ],
+      λ d. outside k d r,
+    )
+
+    -- and one after that of a
+    after : (n : ℕ) → a + 1 + n < members → Lifted G t t' a b m (a + 1 + n) ⊎ Left G t t' a (a + 1 + n)
+    after n r =
+        let l : Link M = entry_of G t (a + 1 + n) in
+        let now : (l' : Link M) → entry_of G s' n ≡ l' → (d : Link M) → get_or t' (a + 1 + n) d ≡ l' =
+        λ l' e d. inside n d r ∙ get_or_default s' n d _ (let e = part_length in omega arith) ∙ e in
+        elim (subst (λ l. Lifts G a b m l (entry_of G s' n)) (before n _ r) (E.each n (search (rules, places)))) [
+          | inl ((parent, fair), e) ↦
+              inl (l.step, record { member = r; lower = omega arith; fair = fair; there = ap (λ p. record { parent = p; step = l.step }) parent }, now _ e)
+          | inr (not_so, e) ↦
+              inr (
+                λ h f. not_so (ap (λ l. l.parent) f.there, subst G.lawful (sym (ap (λ l. l.step) f.there)) f.fair),
+                λ d. now _ e d ∙ get_or_default t (a + 1 + n) _ d (omega arith),
               )
-          | inr ne ↦ left_alone t' n k _ ne (H.done k (omega arith))
-        ];
-        rest = λ k d q. let ne : k ≢ n = omega arith in get_or-set_other t' n k _ d ne ∙ H.rest k d (omega arith);
-        length_kept = length-set t' n _ ∙ H.length_kept;
-      }
+        ]
 
-    pub hang_end : {t' : List (Link M)} → a < length t → Hanging G t t' a b m members → Hung G t (set t' a (record { parent = b; step = m })) a b m
-    hang_end {t'} p H = record {
-      here = λ d. let l = H.length_kept in get_or-set_same t' a _ d (omega arith);
-      others = λ k ne. left_alone t' a k _ ne (elim (cases_lt k members) [
-        | inl q ↦ H.done k q
-        | inr q ↦ inr ((λ h f. let r = f.member in absurd (omega arith)), λ d. H.rest k d q)
+    abbrev u : Link M
+    u = record { parent = b; step = m }
+
+    elsewhere : (k : ℕ) → k ≢ a → Lifted G t t' a b m k ⊎ Left G t t' a k → Lifted G t (set t' a u) a b m k ⊎ Left G t (set t' a u) a k
+    elsewhere k ne (inl (h, f, e)) = inl (h, f, λ d. get_or-set_other t' a k u d ne ∙ e d)
+    elsewhere k ne (inr (no_link, e)) = inr (no_link, λ d. get_or-set_other t' a k u d ne ∙ e d)
+
+    pub hang_hung : Hung G t (set t' a u) a b m
+    hang_hung = record {
+      here = λ d. search (rules, places);
+      others = λ k ne. elsewhere k ne (elim (cases_lt k (a + 1)) [
+        | inl r ↦ inr (left k (inl r))
+        | inr r ↦ elim (cases_lt k members) [
+          | inl r' ↦
+              let e : a + 1 + (k - (a + 1)) ≡ k = omega arith in
+              subst (λ k. Lifted G t t' a b m k ⊎ Left G t t' a k) e (after (k - (a + 1)) (omega arith))
+          | inr r' ↦ inr (left k (inr r'))
+        ]
       ]);
-      length_kept = length-set t' a _ ∙ H.length_kept;
+      length_kept = search (rules, places);
     }
 
 -- the table t' is t with its root a hung by b

@@ -28,6 +28,10 @@ module _ {M : Type 0} (G : Ghosts M) (L : LawsOf G) {t : List (Link M)} where
   way_to (top p) = p
   way_to (up f w) = way_to w
 
+  -- the way up from a member that is this one
+  pub way_from : {i k r : ℕ} {g : M} → Way G t k r g → k ≡ i → Way G t i r g
+  way_from {r} {g} w e = subst (λ i. Way G t i r g) e w
+
   pub way_chain : {i r : ℕ} {g : M} → Way G t i r g → Chain G (Linked G t) i r g
   way_chain (top p) = stay p
   way_chain (up f w) = forth f (way_chain w)
@@ -40,12 +44,6 @@ module _ {M : Type 0} (G : Ghosts M) (L : LawsOf G) {t : List (Link M)} where
   way_more {h = y} (top _) e = subst (Way G t _ _) (sym (L.left_identity y e.fair)) (way_one e)
   way_more {h = y} (up {g} {h} f w) e =
       subst (Way G t _ _) (sym (L.associative g h y f.fair (way_lawful w) e.fair)) (up f (way_more w e))
-
-  -- a way up whose end and move come out equal to these
-  pub way_as : {i r r' : ℕ} {g g' : M} → Way G t i r g → r' ≡ r → g' ≡ g → (r' < members) × Way G t i r' g'
-  way_as {i} {r' = r'} {g} w e d =
-      let w' : Way G t i r' g = subst (λ r. Way G t i r g) (sym e) w in
-      (way_to w', subst (Way G t i r') (sym d) w')
 
   -- the way up to a root is one
   pub way_root : {i r s : ℕ} {g h : M} → Way G t i r g → Root G t r → Way G t i s h → Root G t s → r ≡ s
@@ -81,13 +79,12 @@ module _ {M : Type 0} (G : Ghosts M) (L : LawsOf G) {t : List (Link M)} where
 
   module _ {i j r s : ℕ} {x y : M} (w : Way G t i r x) (p : Root G t r) (v : Way G t j s y) (q : Root G t s) where
     -- what two ways up tell where they meet
-    pub told_some : r ≡ s → (z : M) → (lawful x → lawful y → z ≡ compose x (inverse y)) → Told (Chain G (Linked G t) i j) (Some z)
+    pub told_some : r ≡ s → (z : M) → z ≡ compose x (inverse y) → Told (Chain G (Linked G t) i j) (Some z)
     told_some e z is =
-        let is' = is (way_lawful w) (way_lawful v) in
         let v' : Way G t j r y = subst (λ n. Way G t j n y) (sym e) v in
         let chain = chain_append G L linked_sound (way_chain w) (chain_turn G L linked_sound (way_chain v')) in
-        one (subst (Chain G (Linked G t) i j) (sym is') chain)
-        (λ h c. solve_left G L h y x (chain_lawful G L linked_sound c) (way_lawful v) (sym (chain_move c w p v q)) ∙ sym is')
+        one (subst (Chain G (Linked G t) i j) (sym is) chain)
+        (λ h c. solve_left G L h y x (chain_lawful G L linked_sound c) (way_lawful v) (sym (chain_move c w p v q)) ∙ sym is)
 
     -- and where they do not
     pub told_none : (r ≡ s → ⊥) → Told (Chain G (Linked G t) i j) None

@@ -5,6 +5,7 @@
 --   Flat G t               what t says of a member it says by a root
 --   Way G t i r g          the way up from i to r
 --   across G x g y         the move that makes one root of another
+--   EachLifted G s s' a b m   what hangs by a in the entries s goes up one link more in s', to b by m
 --   Joined G t t' i j g    t' has the chains of t with one fact more
 --   Hung G t t' a b m      the root a, with all that hang by it, hangs by b in t', and no other entry has changed
 --   Keeps G fs t           t stands for the facts fs
@@ -43,6 +44,18 @@ pub record Joined {M : Type 0} (G : Ghosts M) (t t' : List (Link M)) (i j : ℕ)
 -- the move that makes one root of another, where the one moved by x is the other moved by y and then by g
 abbrev pub across : {M : Type 0} → Ghosts M → M → M → M → M
 across G x g y = G.compose (G.inverse x) (G.compose g y)
+
+-- an entry that hangs by a: it says so of any greater member
+abbrev pub Hangs : {M : Type 0} → Ghosts M → ℕ → Link M → Type 0
+Hangs G a l = (l.parent ≡ a) × G.lawful l.step
+
+-- an entry that hangs by a goes up one link more, to b by m, and any other is as it was
+abbrev pub Lifts : {M : Type 0} → Ghosts M → ℕ → ℕ → M → Link M → Link M → Type 0
+Lifts G a b m l l' = (Hangs G a l × (l' ≡ record { parent = b; step = G.compose l.step m })) ⊎ ((Hangs G a l → ⊥) × (l' ≡ l))
+
+pub record EachLifted {M : Type 0} (G : Ghosts M) (s s' : List (Link M)) (a b : ℕ) (m : M) : Type 0 where
+  pub each : (k : ℕ) → k < length s → Lifts G a b m (entry_of G s k) (entry_of G s' k)
+  pub length_kept : length s' ≡ length s
 
 -- entry k hung by a, and hangs by b in t'
 abbrev pub Lifted : {M : Type 0} → Ghosts M → List (Link M) → List (Link M) → ℕ → ℕ → M → ℕ → Type 0

@@ -1,21 +1,27 @@
-use Rattle.union_find.proofs.Ways.{told_some, told_none}
+use Rattle.union_find.proofs.Ways.{told_some, told_none, way_from}
 use Rattle.union_find.proofs.Keeping.{kept_told}
 use Rattle.union_find.proofs.Answering.{one_telling}
 use Rattle.union_find.proofs.relation.Goals as goal
 
-pub returns-in-Some : goal.returns-in-Some
-returns-in-Some g c = let no = c.in-Some.ensures in record { facts = λ fs k. no; table = no; one = one_telling _ _ _ _ }
+pub returns-in_err-i-clause-one : goal.returns-in_err-i-clause-one
+returns-in_err-i-clause-one g c = one_telling _ _ _ _
 
 pub returns-then-a-b : goal.returns-then-a-b
 returns-then-a-b g c =
+    let G = g.G.Group in
+    let L = g.met.G.Group.group in
+    let (ok, ei, ej) = c.in_ok-i.ensures in
     let a = c.climb-a.ensures in
     let b = c.climb-b.ensures in
-    let told = told_some g.G.Group g.met.G.Group.group a.way a.root b.way b.root c.if-a-b.true _ c.between.ensures in
-    record { facts = λ fs k. (c.in_default.ensures, kept_told k told); table = (c.in_default.ensures, told); one = one_telling _ _ _ _ }
+    let told = told_some G L (way_from G L a.way ei) a.root (way_from G L b.way ej) b.root c.if-a-b.true _ c.between.ensures in
+    record { facts = λ fs k. (ok, kept_told k told); table = (ok, told); one = one_telling _ _ _ _ }
 
 pub returns-else-a-b : goal.returns-else-a-b
 returns-else-a-b g c =
+    let G = g.G.Group in
+    let L = g.met.G.Group.group in
+    let (ok, ei, ej) = c.in_ok-i.ensures in
     let a = c.climb-a.ensures in
     let b = c.climb-b.ensures in
-    let told = told_none g.G.Group g.met.G.Group.group a.way a.root b.way b.root c.if-a-b.false in
-    record { facts = λ fs k. (c.in_default.ensures, kept_told k told); table = (c.in_default.ensures, told); one = one_telling _ _ _ _ }
+    let told = told_none G L (way_from G L a.way ei) a.root (way_from G L b.way ej) b.root c.if-a-b.false in
+    record { facts = λ fs k. (ok, kept_told k told); table = (ok, told); one = one_telling _ _ _ _ }
