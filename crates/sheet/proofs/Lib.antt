@@ -4,3 +4,4 @@ pub mod Sorts
 pub mod Growing
 pub mod Checking
 pub mod Forming
+pub mod Fronts

@@ -31,10 +31,7 @@ fn bytes_of(heap: Global, text: &[u8]) -> Result<Vec<u8>, Fault>
     let mut bytes = Vec::new(heap);
     let mut rest = text;
     while let [high, low, after @ ..] = rest {
-        match byte(*high, *low) {
-            Some(b) => bytes.push(b)?,
-            None => return Err(Fault::Malformed),
-        }
+        bytes.push(byte(*high, *low).ok_or(Fault::Malformed)?)?;
         rest = after;
     }
     if !rest.is_empty() {

@@ -95,10 +95,10 @@ impl Tables {
         ensures { sheet_in self.new ≡ declared (sheet_in self.old) item }
     {
         let _ = match item {
-            Item::Arity(arity) => self.arities.push(arity),
-            Item::Constructor(c) => self.constructors.push(c),
-            Item::Variable(a) => self.variables.push(a),
-            Item::Row(row) => self.rows.push(row),
+            Item::Arity(arity) => self.arities.push(arity).is_ok(),
+            Item::Constructor(c) => self.constructors.push(c).is_ok(),
+            Item::Variable(a) => self.variables.push(a).is_ok(),
+            Item::Row(row) => self.rows.push(row).is_ok(),
         };
     }
 

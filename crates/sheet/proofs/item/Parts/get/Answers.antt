@@ -1,6 +1,6 @@
 use Rattle.std.proofs.Common.{arith, rules}
 use Rattle.std.proofs.lemmas.Option.{slice_get_past}
-use Rattle.bounded.proofs.Fronts.{slice_get-take, slice_get-take_past}
+use Rattle.sheet.proofs.Fronts.{slice_get-take, slice_get-take_past}
 use Rattle.sheet.proofs.item.Parts.get.Goals as goal
 
 pub returns-then-k-self : goal.returns-then-k-self
