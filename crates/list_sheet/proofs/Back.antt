@@ -1,21 +1,23 @@
--- Bytes that reading accepts, written back.
-use Rattle.std.proofs.Common.{◌≡◌, ℕ, ◌≤◌, ◌⊎◌, List, ◌++◌, length, take, drop, sym, ap, ◌∙◌, inl, inr, arith}
+-- The bytes of a sheet, written back.
+use Rattle.std.proofs.Common.{◌≡◌, ℕ, ◌≤◌, ◌↔◌, List, length, take, drop, Ok, Err, sym, ap, ◌∙◌, inl, inr, arith}
 use Rattle.std.proofs.lemmas.List.{take_at}
 use Rattle.refusals.specs.declared.Refusal.{Refusal}
-use Rattle.sheet.specs.Checks.{Declined}
 use Rattle.sheet.proofs.Checking.{not_both}
 use Rattle.packed.specs.Packed.{packed, packed_form}
-use Rattle.packed.specs.Forms.{Accepted, TooShort}
-use Rattle.packed.proofs.Forms.{read_is_form}
+use Rattle.packed.specs.Forms.{Accepted, Written}
+use Rattle.packed.proofs.Forms.{read_is_form, one_form}
 
--- the front of the buffer is the bytes again
-pub written_back : (bs before after : List ℕ) (n : ℕ) → Accepted bs → n ≡ length (packed_form (packed bs))
-    → after ≡ packed_form (packed bs) ++ drop n before → take n after ≡ bs
-written_back bs before after n accepted long is =
-    ap (take n) is ∙ take_at (packed_form (packed bs)) (drop n before) n (sym long) ∙ sym (read_is_form bs accepted)
+-- what is written are the bytes again exactly where reading accepts them
+pub back_again : (bs before after : List ℕ) (n : ℕ) → Written (packed bs) before (Ok n) after → (take n after ≡ bs) ↔ Accepted bs
+back_again bs before after n answer =
+    let form = packed_form (packed bs) in
+    let front : take n after ≡ form = ap (take n) answer.3 ∙ take_at form (drop n before) n (sym answer.1) in
+    (λ same. ((one_form (packed bs) answer.0 bs).1 (sym same ∙ front)).0, λ accepted. front ∙ sym (read_is_form bs accepted))
 
--- and writing is not refused where there is room
-pub not_refused : (bs before : List ℕ) (f : Refusal) → Accepted bs → length bs ≤ length before
-    → Declined (packed bs) f ⊎ TooShort (packed bs) before f → ⊥
-not_refused bs before f accepted room (inl declined) = not_both (packed bs) f accepted.1 declined
-not_refused bs before f accepted room (inr short) = let same = ap length (read_is_form bs accepted) in let less = short.short in omega arith
+-- and writing accepted bytes is not refused where there is room
+pub not_refused : (bs before after : List ℕ) (f : Refusal) → Written (packed bs) before (Err f) after → length bs ≤ length before → Accepted bs → ⊥
+not_refused bs before after f (inl declined, same) room accepted = not_both (packed bs) f accepted.1 declined
+not_refused bs before after f (inr short, same) room accepted =
+    let long = ap length (read_is_form bs accepted) in
+    let less = short.short in
+    omega arith

@@ -42,62 +42,33 @@ fn listing_of(bytes: &[u8]) -> Result<Listing, Refusal>
 
 // Whether writing the sheet gives the bytes that it was read from.
 fn is_written_back(bytes: &[u8]) -> bool
-    ensures { Accepted bytes.now → length bytes.now ≤ 4096 → result ≡ true }
+    ensures accepted { Accepted bytes.now → length bytes.now ≤ 4096 → result ≡ true }
+    ensures refused { result ≡ true → Accepted bytes.now }
 {
     let mut buffer = [0; ROOM];
     match write(&Packed { bytes }, &mut buffer) {
-        Ok(n) => match buffer.get(0..n) {
-            Some(written) => written == bytes,
-            None => false,
-        },
+        Ok(n) => &buffer[..n] == bytes,
         Err(_) => false,
     }
 }
 
-fn print_arities(rt: &impl Print, tables: &Tables) -> io::Result<()> {
-    for k in 0..tables.arities.len() {
-        if let Some(arity) = tables.arities.get(k) {
-            println!(rt; "arity {k}: {}", InWords(arity))?;
-        }
-    }
-    Ok(())
-}
-
-fn print_constructors(rt: &impl Print, tables: &Tables) -> io::Result<()> {
-    for k in 0..tables.constructors.len() {
-        if let Some(constructor) = tables.constructors.get(k) {
-            println!(rt; "constructor {k}: {}", InWords(constructor))?;
-        }
-    }
-    Ok(())
-}
-
-fn print_variables(rt: &impl Print, tables: &Tables) -> io::Result<()> {
-    for k in 0..tables.variables.len() {
-        if let Some(arity) = tables.variables.get(k) {
-            println!(rt; "variable {k}: arity {arity}")?;
-        }
-    }
-    Ok(())
-}
-
-fn print_rows(rt: &impl Print, tables: &Tables) -> io::Result<()> {
-    for k in 0..tables.rows.len() {
-        if let Some(row) = tables.rows.get(k) {
-            // Each row of a lawful sheet has an arity.
-            if let Some(arity) = tables.arity_of(row) {
-                println!(rt; "row {k}: {}, arity {arity}", InWords(row))?;
-            }
-        }
-    }
-    Ok(())
-}
-
 fn print_tables(rt: &impl Print, tables: &Tables) -> io::Result<()> {
-    print_arities(rt, tables)?;
-    print_constructors(rt, tables)?;
-    print_variables(rt, tables)?;
-    print_rows(rt, tables)
+    for (k, arity) in tables.arities.as_slice().iter().enumerate() {
+        println!(rt; "arity {k}: {}", InWords(*arity))?;
+    }
+    for (k, constructor) in tables.constructors.as_slice().iter().enumerate() {
+        println!(rt; "constructor {k}: {}", InWords(*constructor))?;
+    }
+    for (k, arity) in tables.variables.as_slice().iter().enumerate() {
+        println!(rt; "variable {k}: arity {arity}")?;
+    }
+    for (k, row) in tables.rows.as_slice().iter().enumerate() {
+        // Each row of a lawful sheet has an arity.
+        if let Some(arity) = tables.arity_of(*row) {
+            println!(rt; "row {k}: {}, arity {arity}", InWords(*row))?;
+        }
+    }
+    Ok(())
 }
 
 fn print_sheet(rt: &impl Print, sheet: &Listing, bytes: &[u8]) -> io::Result<()> {

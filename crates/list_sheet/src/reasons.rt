@@ -42,13 +42,12 @@ pub struct Declined(pub Refusal);
 impl fmt::Display for Declined {
     fn fmt<W: fmt::Write>(&self, f: &mut fmt::Formatter<W>) -> fmt::Result {
         let Refusal { reason, place } = self.0;
-        let word = reason.word();
         let number = reason.number();
         let unit = unit(reason);
         let sentence = explain(reason);
         write!(
             f,
-            "refused: {word} ({number}) at {unit} {place}: {sentence}"
+            "refused: {reason} ({number}) at {unit} {place}: {sentence}"
         )
     }
 }

@@ -9,12 +9,9 @@ pub struct InWords<T: Copy>(pub T);
 // The numbers with commas between them.
 impl fmt::Display for InWords<Parts> {
     fn fmt<W: fmt::Write>(&self, f: &mut fmt::Formatter<W>) -> fmt::Result {
-        let parts = self.0;
-        for k in 0..parts.len {
-            if let Some(part) = parts.get(k) {
-                let comma = if k == 0 { "" } else { ", " };
-                write!(f, "{comma}{part}")?;
-            }
+        for (k, part) in self.0.as_slice().iter().enumerate() {
+            let comma = if k == 0 { "" } else { ", " };
+            write!(f, "{comma}{part}")?;
         }
         Ok(())
     }

@@ -11,55 +11,47 @@ use std::fmt;
 // No packed form of a lawful sheet is longer.
 const ROOM: usize = 4096;
 
+/// What a call found.
 #[derive(Drop)]
-pub enum Answer {
-    /// The check found no fault.
+pub enum Found {
+    /// No fault.
     Lawful,
-    /// The sheet that was read has so many entries.
+    /// So many entries in the sheet that was read.
     Entries(usize),
     /// The bytes that were written.
     Written(Vec<u8>),
-    Refused(Refusal),
 }
+
+/// What a call answers.
+#[derive(Drop)]
+pub struct Answer(pub Result<Found, Refusal>);
 
 impl Answer {
     pub fn of_check<S: SheetSource>(source: &S) -> Answer {
-        match check(source) {
-            Ok(()) => Answer::Lawful,
-            Err(refusal) => Answer::Refused(refusal),
-        }
+        Answer(check(source).map(|_| Found::Lawful))
     }
 
     pub fn of_reading(bytes: &[u8]) -> Answer {
-        match read(bytes) {
-            Ok(n) => Answer::Entries(n),
-            Err(refusal) => Answer::Refused(refusal),
-        }
+        Answer(read(bytes).map(|n| Found::Entries(n)))
     }
 
     pub fn of_writing<S: SheetSource>(heap: Global, source: &S) -> Result<Answer, AllocError> {
         let mut buffer = [0; ROOM];
-        match write(source, &mut buffer) {
-            Ok(n) => {
-                let written = buffer.get(0..n).unwrap_or(&[]);
-                Ok(Answer::Written(written.to_vec(heap)?))
-            }
-            Err(refusal) => Ok(Answer::Refused(refusal)),
-        }
+        let answer = match write(source, &mut buffer) {
+            Ok(n) => Ok(Found::Written(buffer[..n].to_vec(heap)?)),
+            Err(refusal) => Err(refusal),
+        };
+        Ok(Answer(answer))
     }
 }
 
 impl fmt::Display for Answer {
     fn fmt<W: fmt::Write>(&self, f: &mut fmt::Formatter<W>) -> fmt::Result {
-        match self {
-            Answer::Lawful => f.write_str("ok"),
-            Answer::Entries(n) => write!(f, "ok {n}"),
-            Answer::Written(bytes) => write!(f, "ok {}", Hex(bytes.as_slice())),
-            Answer::Refused(Refusal { reason, place }) => write!(
-                f,
-                "refused {} {place}",
-                reason.number()
-            ),
+        match &self.0 {
+            Ok(Found::Lawful) => f.write_str("ok"),
+            Ok(Found::Entries(n)) => write!(f, "ok {n}"),
+            Ok(Found::Written(bytes)) => write!(f, "ok {}", Hex(bytes.as_slice())),
+            Err(Refusal { reason, place }) => write!(f, "refused {} {place}", reason.number()),
         }
     }
 }

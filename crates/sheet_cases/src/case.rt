@@ -1,6 +1,6 @@
 //! The cases.
-use crate::fault::Fault;
 use crate::hex::decode;
+use faults::Fault;
 use sheet::entry::Entry;
 use std::alloc::Global;
 
@@ -21,17 +21,10 @@ pub struct Case<'a> {
 fn records(heap: Global, bytes: &[u8]) -> Result<Vec<Entry>, Fault> {
     let mut entries = Vec::new(heap);
     for record in bytes.chunks(6) {
-        match *record {
-            [command, a, b, c, d, e] => entries.push(Entry {
-                command,
-                a,
-                b,
-                c,
-                d,
-                e,
-            })?,
-            _ => return Err(Fault::Malformed),
-        }
+        let [command, a, b, c, d, e] = *record else {
+            return Err(Fault::Malformed);
+        };
+        entries.push(Entry::new(command, a, b, c, d, e))?;
     }
     Ok(entries)
 }

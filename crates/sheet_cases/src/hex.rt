@@ -2,7 +2,7 @@
 ghost use Rattle.std.specs.Prelude.{◌≡◌, ℕ, ◌/◌, ◌%◌, ◌<◌, IfSome, IfOk, MatchOption, ◌≢◌};
 ghost use Rattle.sheet_cases.specs.Digits.{digit, digits, spelled};
 
-use crate::fault::Fault;
+use faults::Fault;
 use std::alloc::Global;
 use std::fmt;
 
@@ -31,10 +31,7 @@ fn bytes_of(heap: Global, text: &[u8]) -> Result<Vec<u8>, Fault>
     let mut bytes = Vec::new(heap);
     let mut rest = text;
     while let [high, low, after @ ..] = rest {
-        match byte(*high, *low) {
-            Some(b) => bytes.push(b)?,
-            None => return Err(Fault::Malformed),
-        }
+        bytes.push(byte(*high, *low).ok_or(Fault::Malformed)?)?;
         rest = after;
     }
     if !rest.is_empty() {

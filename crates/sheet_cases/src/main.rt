@@ -5,12 +5,11 @@
 
 mod answer;
 mod case;
-mod fault;
 mod hex;
 
 use answer::Answer;
 use case::{Case, Form};
-use fault::Fault;
+use faults::Fault;
 use packed::source::Packed;
 use sheet::source::Records;
 use std::alloc::Global;
@@ -41,9 +40,7 @@ fn outcome(heap: Global, line: &str) -> Result<String, Fault> {
 
 fn main(rt: HostRuntime) -> io::Result<()> {
     let heap = rt.alloc();
-    let mut number: u64 = 0;
-    for line in BufReader::new(heap, rt.stdin())?.lines(heap) {
-        number = number.saturating_add(1);
+    for (number, line) in (1u64..).zip(BufReader::new(heap, rt.stdin())?.lines(heap)) {
         match outcome(heap, line?.as_str()) {
             Ok(text) => println!(rt; "{text}")?,
             Err(Fault::Malformed) => println!(rt; "bad line {number}")?,
