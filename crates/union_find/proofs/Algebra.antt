@@ -1,5 +1,5 @@
 -- What follows from the laws of a group, for lawful elements.
-use Rattle.std.proofs.Common.{◌≡◌, sym, ap, ◌∙◌, subst}
+use Rattle.std.proofs.Common.{◌≡◌, sym, ap, ◌∙◌}
 use Rattle.groups.specs.Laws.{Laws}
 use Rattle.groups.specs.declared.Group.{Ghosts}
 use Rattle.union_find.specs.Tables.{across}

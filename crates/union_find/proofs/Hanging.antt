@@ -1,12 +1,12 @@
 -- A root and all that hang by it are hung by a smaller member: the chains are those with one fact more.
-use Rattle.std.proofs.Common.{◌≡◌, ℕ, ◌+◌, ◌<◌, ◌≤◌, ◌≢◌, ◌⊎◌, List, length, get_or, set, sym, refl, ap, ◌∙◌, subst, inl, inr, arith, get_or-set_other, get_or-set_same, below_more, rules, ◌-◌, take, drop}
+use Rattle.std.proofs.Common.{◌≡◌, ℕ, ◌+◌, ◌<◌, ◌≤◌, ◌≢◌, ◌⊎◌, List, length, get_or, set, sym, ap, ◌∙◌, subst, inl, inr, arith, get_or-set_other, get_or-set_same, below_more, rules, ◌-◌, take, drop}
 use Rattle.std.proofs.lemmas.Bool.{cases_eq, cases_lt}
-use Rattle.std.proofs.lemmas.List.{get_or_read, get_or_default, places}
+use Rattle.std.proofs.lemmas.List.{get_or_default, places}
 use borrow.Rule.Slice.PartMut.{put_mid}
 use Rattle.groups.specs.declared.Group.{Ghosts}
 use Rattle.union_find.specs.declared.link.Link.{Link}
 use Rattle.union_find.specs.Facts.{members, Chain, With, old}
-use Rattle.union_find.specs.Tables.{Linked, Root, Flat, Joined, LiftedEntry, LeftEntry, Lifts, EachLifted, Lifted, Left, Hung, entry_of}
+use Rattle.union_find.specs.Tables.{Linked, Root, Flat, Joined, Lifts, EachLifted, Lifted, Left, Hung, entry_of}
 use Rattle.union_find.proofs.Algebra.{LawsOf, undo}
 use Rattle.union_find.proofs.Chains.{Sound, chain_append, chain_turn, chain_map, one, with_sound, with_new, with_map}
 use Rattle.union_find.proofs.Ways.{linked_sound, one_parent, one_step}
@@ -29,36 +29,36 @@ module _ {M : Type 0} {G : Ghosts M} where
     rest = λ k q. let ne : k ≢ n = omega arith in get_or-set_other s' n k x _ ne ∙ I.rest k (omega arith);
   }
 
-  -- entries a + 1 to members - 1 of t are s' now, and entry a is u
-  module _ (t s' : List (Link M)) (a : ℕ) (u : Link M) (E : EachLifted G (take (members - (a + 1)) (drop (a + 1) t)) s' a u) (p : a < members) (q : members ≤ length t) where
-    part_length : length s' ≡ members - (a + 1)
+  -- entries a to members - 1 of t are s' now, and then entry a is u
+  module _ (t s' : List (Link M)) (a : ℕ) (u : Link M) (E : EachLifted G (take (members - a) (drop a t)) s' a u) (p : a < members) (q : members ≤ length t) where
+    part_length : length s' ≡ members - a
     part_length = E.length_kept ∙ search (rules, places)
 
-    outside : (k : ℕ) (d : Link M) → (k < a + 1) ⊎ (members ≤ k) → get_or (put_mid (a + 1) (members - (a + 1)) t s') k d ≡ get_or t k d
+    outside : (k : ℕ) (d : Link M) → (k < a) ⊎ (members ≤ k) → get_or (put_mid a (members - a) t s') k d ≡ get_or t k d
     outside k d (inl r) = let e = part_length in search (rules, places)
     outside k d (inr r) = let e = part_length in search (rules, places)
 
-    inside : (n : ℕ) (d : Link M) → a + 1 + n < members → get_or (put_mid (a + 1) (members - (a + 1)) t s') (a + 1 + n) d ≡ get_or s' n d
+    inside : (n : ℕ) (d : Link M) → a + n < members → get_or (put_mid a (members - a) t s') (a + n) d ≡ get_or s' n d
     inside n d r = let e = part_length in search (rules, places)
 
-    before : (n : ℕ) (d : Link M) → a + 1 + n < members → get_or (take (members - (a + 1)) (drop (a + 1) t)) n d ≡ get_or t (a + 1 + n) d
+    before : (n : ℕ) (d : Link M) → a + n < members → get_or (take (members - a) (drop a t)) n d ≡ get_or t (a + n) d
     before n d r = search (rules, places)
 
     abbrev t' : List (Link M)
-    t' = put_mid (a + 1) (members - (a + 1)) t s'
+    t' = put_mid a (members - a) t s'
 
     -- an entry that is as it was
-    left : (k : ℕ) → (k < a + 1) ⊎ (members ≤ k) → Left G t t' a k
+    left : (k : ℕ) → (k < a) ⊎ (members ≤ k) → Left G t t' a k
     left k r = (
       λ h f. let low = f.lower in let high = f.member in elim r [ inl q ↦ absurd (omega arith) | inr q ↦ absurd (omega arith) ],
       λ d. outside k d r,
     )
 
-    -- and one after that of a
-    after : (n : ℕ) → a + 1 + n < members → Lifted G t t' a u.parent u.step (a + 1 + n) ⊎ Left G t t' a (a + 1 + n)
-    after n r =
-        let l : Link M = entry_of G t (a + 1 + n) in
-        let now : (l' : Link M) → entry_of G s' n ≡ l' → (d : Link M) → get_or t' (a + 1 + n) d ≡ l' =
+    -- and one from a on
+    after : (n : ℕ) → a + n ≢ a → a + n < members → Lifted G t t' a u.parent u.step (a + n) ⊎ Left G t t' a (a + n)
+    after n ne r =
+        let l : Link M = entry_of G t (a + n) in
+        let now : (l' : Link M) → entry_of G s' n ≡ l' → (d : Link M) → get_or t' (a + n) d ≡ l' =
         λ l' e d. inside n d r ∙ get_or_default s' n d _ (let e = part_length in omega arith) ∙ e in
         elim (subst (λ l. Lifts G a u l (entry_of G s' n)) (before n _ r) (E.each n (search (rules, places)))) [
           | inl (parent, fair, e) ↦
@@ -66,7 +66,7 @@ module _ {M : Type 0} {G : Ghosts M} where
           | inr (not_so, e) ↦
               inr (
                 λ h f. not_so (ap (λ l. l.parent) f.there) (subst G.lawful (sym (ap (λ l. l.step) f.there)) f.fair),
-                λ d. now _ e d ∙ get_or_default t (a + 1 + n) _ d (omega arith),
+                λ d. now _ e d ∙ get_or_default t (a + n) _ d (omega arith),
               )
         ]
 
@@ -77,12 +77,12 @@ module _ {M : Type 0} {G : Ghosts M} where
     pub hang_hung : Hung G t (set t' a u) a u.parent u.step
     hang_hung = record {
       here = λ d. search (rules, places);
-      others = λ k ne. elsewhere k ne (elim (cases_lt k (a + 1)) [
+      others = λ k ne. elsewhere k ne (elim (cases_lt k a) [
         | inl r ↦ inr (left k (inl r))
         | inr r ↦ elim (cases_lt k members) [
           | inl r' ↦
-              let e : a + 1 + (k - (a + 1)) ≡ k = omega arith in
-              subst (λ k. Lifted G t t' a u.parent u.step k ⊎ Left G t t' a k) e (after (k - (a + 1)) (omega arith))
+              let e : a + (k - a) ≡ k = omega arith in
+              subst (λ k. Lifted G t t' a u.parent u.step k ⊎ Left G t t' a k) e (after (k - a) (omega arith) (omega arith))
           | inr r' ↦ inr (left k (inr r'))
         ]
       ]);

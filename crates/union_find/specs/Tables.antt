@@ -45,16 +45,11 @@ pub record Joined {M : Type 0} (G : Ghosts M) (t t' : List (Link M)) (i j : ℕ)
 abbrev pub across : {M : Type 0} → Ghosts M → M → M → M → M
 across G x g y = G.compose (G.inverse x) (G.compose g y)
 
--- an entry that hangs by a, where the link up from a is added
-abbrev pub LiftedEntry : {M : Type 0} → Ghosts M → ℕ → Link M → Link M → Link M → Type 0
-LiftedEntry G a u l l' = (l.parent ≡ a) × G.lawful l.step × (l' ≡ record { parent = u.parent; step = G.compose l.step u.step })
-
--- and one that does not
-abbrev pub LeftEntry : {M : Type 0} → Ghosts M → ℕ → Link M → Link M → Type 0
-LeftEntry G a l l' = (l.parent ≡ a → G.lawful l.step → ⊥) × (l' ≡ l)
-
+-- an entry l that hangs by a, and in l' goes up by u too; or one that does not hang by a, and is as it was
 abbrev pub Lifts : {M : Type 0} → Ghosts M → ℕ → Link M → Link M → Link M → Type 0
-Lifts G a u l l' = LiftedEntry G a u l l' ⊎ LeftEntry G a l l'
+Lifts G a u l l' =
+    ((l.parent ≡ a) × G.lawful l.step × (l' ≡ record { parent = u.parent; step = G.compose l.step u.step }))
+    ⊎ ((l.parent ≡ a → G.lawful l.step → ⊥) × (l' ≡ l))
 
 pub record EachLifted {M : Type 0} (G : Ghosts M) (s s' : List (Link M)) (a : ℕ) (u : Link M) : Type 0 where
   pub each : (k : ℕ) → k < length s → Lifts G a u (entry_of G s k) (entry_of G s' k)

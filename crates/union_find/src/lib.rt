@@ -68,14 +68,15 @@ fn climb<G: Group>(table: &[Link<G>], i: u8) -> Link<G>
     way
 }
 
-// The move that makes a member of another, where their ways up meet.
+// The move that makes a member of another, where their ways up meet. Inlined, since a call costs more than a move of ticks.
+#[inline(always)]
 fn between<G: Group>(a: Link<G>, b: Link<G>) -> G
     ensures { G.lawful a.step → G.lawful b.step → result ≡ G.compose a.step (G.inverse b.step) }
 {
     a.step.compose(b.step.inverse())
 }
 
-// What hangs by a, of the entries after a's own, goes up one link more.
+// Those of the entries that hang by a go up one link more.
 fn lift<G: Group>(entries: &mut [Link<G>], a: u8, up: Link<G>)
     requires fair { G.lawful up.step }
     ensures { EachLifted G.Group.own entries.old entries.new a up }
@@ -94,7 +95,8 @@ fn hang<G: Group>(table: &mut [Link<G>], a: u8, up: Link<G>)
     requires fair { G.lawful up.step }
     ensures { Hung G.Group.own table.old table.new a up.parent up.step }
 {
-    lift(&mut table[usize::from(a) + 1..MEMBERS], a, up);
+    // No smaller member hangs by a, and a's own entry is overwritten.
+    lift(&mut table[usize::from(a)..MEMBERS], a, up);
     table[usize::from(a)] = up;
 }
 
