@@ -27,8 +27,8 @@ pub fn answer_to<M: Group>(
     j: usize,
     remark: Remark<M>,
 ) -> Answer<M>
-    ensures facts { (fs : List (Fact M)) → Keeps M.Group fs table.old → Replies M.Group fs (length table.old) i j remark result (λ fs'. Keeps M.Group fs' table.new) }
-    ensures table { Handles M.Group table.old table.new i j remark result }
+    ensures facts { (fs : List (Fact M)) → Keeps M.Group.own fs table.old → Replies M.Group.own fs (length table.old) i j remark result (λ fs'. Keeps M.Group.own fs' table.new) }
+    ensures table { Handles M.Group.own table.old table.new i j remark result }
 {
     match remark {
         Remark::Says(said) => Answer::Learned(said, relate(table, i, j, said)),
