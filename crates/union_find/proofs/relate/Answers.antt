@@ -41,15 +41,11 @@ returns-then-a-b g c =
     let other = c.if-equals.ensures in
     record { facts = λ fs k. ((yes, (kept_told k told, other)), k); table = ((yes, (told, other)), refl); one = one_answer _ g.G.Group _ _ _ _ }
 
-pub join-requires : goal.join-requires
-join-requires g c =
+pub join-requires-clause-fair : goal.join-requires-clause-fair
+join-requires-clause-fair g c =
     let G = g.G.Group in
     let L = g.met.G.Group.group in
-    record {
-      room = c.in_ok-i.ensures.0.room;
-      apart = c.if-a-b.false;
-      fair = (way_lawful G L c.climb-a.ensures.way, way_lawful G L c.climb-b.ensures.way, c.if-not-is_lawful.ensures);
-    }
+    (way_lawful G L c.climb-a.ensures.way, way_lawful G L c.climb-b.ensures.way, c.if-not-is_lawful.ensures)
 
 pub returns : goal.returns
 returns g c =
