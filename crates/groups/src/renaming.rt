@@ -67,6 +67,7 @@ impl Group for Renaming {
         seen == (1 << NAMES) - 1 && self.bits >> (4 * NAMES) == 0
     }
 
+    #[tactic(auto, unfolding(crate::specs::Renamings::pack))]
     fn identity() -> Renaming {
         Renaming {
             // Each name at its own place.
