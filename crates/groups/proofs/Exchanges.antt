@@ -1,5 +1,5 @@
 -- The exchange of two names, as `^` makes it.
-use Rattle.std.proofs.Common.{◌≡◌, ℕ, ◌*◌, ◌%◌, ◌^◌, ◌<◌, ◌≤◌, ◌⊎◌, sym, ap, ◌∙◌, subst, ap₂, inl, inr, arith}
+use Rattle.std.proofs.Common.{◌≡◌, ℕ, ◌*◌, ◌%◌, ◌^◌, ◌<◌, sym, ap, ◌∙◌, subst, ap₂, inl, inr, arith}
 use lib.Bits.{bit_xor, xor_assoc, xor_self, xor_comm, xor_zero_l, xor_zero_r, xor_lt}
 use Rattle.std.proofs.lemmas.Bool.{cases_eq}
 use Rattle.std.proofs.lemmas.Bool.Decides.{nat_tests}
@@ -65,6 +65,3 @@ module _ (a b : ℕ) (p : a < names) (q : b < names) where
 
 pub exchange_of_names : (a b : ℕ) → a < names → b < names → exchange a b ≡ renaming (pack (swap a b))
 exchange_of_names a b p q = grind (arith, nat_tests)
-
-pub exchange_of_others : (a b : ℕ) → (names ≤ a) ⊎ (a < names × names ≤ b) → exchange a b ≡ identity_renaming
-exchange_of_others a b p = grind (arith, nat_tests)

@@ -62,12 +62,14 @@ impl Group for Renaming {
     // since there are no more images than names.
     fn is_lawful(self) -> bool {
         let mut seen: u64 = 0;
+        // This loop and the two below go over names, not over a slice: a fold over them is no plainer.
         for i in 0..NAMES {
             seen |= 1 << self.image(i);
         }
         seen == (1 << NAMES) - 1 && self.bits >> (4 * NAMES) == 0
     }
 
+    #[tactic(auto, unfolding(crate::specs::Renamings::pack))]
     fn identity() -> Renaming {
         Renaming {
             // Each name at its own place.

@@ -1,14 +1,11 @@
 use Rattle.std.proofs.Common.{sym, ap, ◌∙◌, subst}
 use Rattle.groups.specs.Renamings.{Lawful, renaming, LawfulRenaming}
 use Rattle.groups.specs.RenamingsLemmas.{renaming_laws}
-use Rattle.groups.proofs.Exchanges.{shifted_exchange, swap_lawful, exchange_of_names, exchange_of_others}
+use Rattle.groups.proofs.Exchanges.{shifted_exchange, swap_lawful, exchange_of_names}
 use Rattle.groups.proofs.renaming.Renaming.exchange.Goals as goal
 
-pub returns-then-a-ge-NAMES : goal.returns-then-a-ge-NAMES
-returns-then-a-ge-NAMES c = record {
-  is = c.identity-same.ensures ∙ sym (exchange_of_others c.args.a c.args.b c.then-a-ge-NAMES.either);
-  lawful = subst LawfulRenaming (sym c.identity-same.ensures) renaming_laws.lawful_identity;
-}
+pub returns-then-a-ge-NAMES-clause-lawful : goal.returns-then-a-ge-NAMES-clause-lawful
+returns-then-a-ge-NAMES-clause-lawful c = subst LawfulRenaming (sym c.identity-same.ensures) renaming_laws.lawful_identity
 
 pub returns : goal.returns
 returns c =

@@ -1,14 +1,7 @@
-use Rattle.std.proofs.Common.{◌≡◌, ◌<◌, ap, ◌∙◌, arith}
+use Rattle.std.proofs.Common.{◌≡◌, ap, ◌∙◌, arith}
 use Rattle.groups.specs.Renamings.{names, image}
-use Rattle.groups.specs.Packs.{image-lt}
-use Rattle.groups.proofs.Seen.{seen, seen_next, when_seen, when_unseen}
+use Rattle.groups.proofs.Seen.{seen, when_seen, when_unseen}
 use Rattle.groups.proofs.renaming.RenamingGroup.is_lawful.Goals as goal
-
-pub loop-i-preserved : goal.loop-i-preserved
-loop-i-preserved c =
-    let n = c.args.self.bits in
-    let small : image n c.loop-i.i < 64 = omega (arith, image-lt n c.loop-i.i) in
-    seen_next (image n) 64 c.loop-i.i c.loop-i.seen c.image.result c.loop-i.invariant c.image.ensures small
 
 pub returns-then-seen : goal.returns-then-seen
 returns-then-seen c =
