@@ -35,8 +35,7 @@ module _ {M : Type 0} {G : Ghosts M} where
     part_length = E.length_kept ∙ search (rules, places)
 
     outside : (k : ℕ) (d : Link M) → (k < a + 1) ⊎ (members ≤ k) → get_or (put_mid (a + 1) (members - (a + 1)) t s') k d ≡ get_or t k d
-    outside k d (inl r) = let e = part_length in search (rules, places)
-    outside k d (inr r) = let e = part_length in search (rules, places)
+    outside k d r = let e = part_length in grind (arith, places)
 
     inside : (n : ℕ) (d : Link M) → a + 1 + n < members → get_or (put_mid (a + 1) (members - (a + 1)) t s') (a + 1 + n) d ≡ get_or s' n d
     inside n d r = let e = part_length in search (rules, places)
@@ -50,7 +49,7 @@ module _ {M : Type 0} {G : Ghosts M} where
     -- an entry that is as it was
     left : (k : ℕ) → (k < a + 1) ⊎ (members ≤ k) → Left G t t' a k
     left k r = (
-      λ h f. let low = f.lower in let high = f.member in elim r [ inl q ↦ absurd (omega arith) | inr q ↦ absurd (omega arith) ],
+      λ h f. let low = f.lower in let high = f.member in absurd (grind arith),
       λ d. outside k d r,
     )
 

@@ -1,6 +1,6 @@
 -- A table stands for the facts learned: what is told of the one is told of the other.
 use Rattle.std.proofs.Common.{◌≡◌, ℕ, ◌<◌, ◌≤◌, List, [], ◌∷◌, ◌++◌, length, take, drop, replicate, get_or, Option, sym, ap, ◌∙◌, subst, arith, rules}
-use Rattle.std.proofs.lemmas.List.{places, length-take-le, length-replicate, get_or-replicate, get_or_append_left}
+use Rattle.std.proofs.lemmas.List.{places, length-take-le, length-replicate}
 use Rattle.groups.specs.declared.Group.{Ghosts}
 use Rattle.union_find.specs.declared.link.Link.{Link}
 use Rattle.union_find.specs.Facts.{members, Fact, Among, first, later, With, old, new, Chain, stay, forth, backwards, Told, nothing, one}
@@ -21,11 +21,8 @@ pub filled : {A : Type 0} (n : ℕ) (t s : List A) (l : A) → s ≡ replicate (
     ((k : ℕ) (d : A) → k < n → get_or (s ++ drop n t) k d ≡ l) × ((k : ℕ) (d : A) → n ≤ k → get_or (s ++ drop n t) k d ≡ get_or t k d) × (length (s ++ drop n t) ≡ length t)
 filled n t s l e room =
     let e' : s ≡ replicate n l = e ∙ ap (λ m. replicate m l) (length-take-le n t room) in
-    let size : length s ≡ n = ap length e' ∙ length-replicate n l in (
-      λ k d p. get_or_append_left s (drop n t) d k (omega arith) ∙ ap (λ s. get_or s k d) e' ∙ get_or-replicate n k l d p,
-      λ k d p. search (rules, places),
-      search (rules, places),
-    )
+    let size : length s ≡ n = ap length e' ∙ length-replicate n l in
+    search (rules, places)
 
 module _ {M : Type 0} {G : Ghosts M} where
   pub kept_told : {fs : List (Fact M)} {t : List (Link M)} → Keeps G fs t → {i j : ℕ} {r : Option M} →
