@@ -1,8 +1,8 @@
 -- The check, entry by entry.
-use Rattle.std.proofs.Common.{◌≡◌, ℕ, zero, suc, ◌+◌, ◌<◌, ◌≤◌, true, List, [], ◌∷◌, ◌++◌, length, take, drop, Some, None, Ok, Err, Result, sym, refl, ap, ◌∙◌, subst, inl, inr, add-one, arith, below_more}
+use Rattle.std.proofs.Common.{◌≡◌, ℕ, ◌+◌, ◌<◌, ◌≤◌, true, List, [], ◌∷◌, ◌++◌, length, get_or, take, drop, Some, None, Ok, Err, Result, sym, refl, ap, ◌∙◌, subst, inl, inr, arith, below_more}
 use Rattle.std.specs.List.{slice_get}
-use Rattle.std.proofs.lemmas.List.{length-drop, take_all, take_more}
-use Rattle.std.proofs.lemmas.Option.{same_Some, slice_get_within, get_or_from_slice_get, none-some}
+use Rattle.std.proofs.lemmas.List.{drop_more, length-drop, take_all, take_more}
+use Rattle.std.proofs.lemmas.Option.{same_Some, slice_get-get_or, slice_get_within, get_or_from_slice_get, none-some}
 use Rattle.std.proofs.lemmas.Bool.{cases_order, false≢true}
 use Rattle.refusals.specs.declared.Reason.{Reason}
 use Rattle.refusals.specs.declared.Reason.TheVariants.{Barren as BarrenReason}
@@ -43,16 +43,15 @@ passed_none es k S left none empty all_left =
       rest = ap (λ n. drop n es) none ∙ sym all_left;
     }
 
--- the first that is left stands next
-next_of : (es : List Entry) (k : ℕ) (e : Entry) (left : List Entry) → drop k es ≡ e ∷ left → (slice_get es k ≡ Some e) × (drop (suc k) es ≡ left)
-next_of [] zero e left is = let z : ◌≡◌ {A = ℕ} 0 1 = cc in absurd (omega arith)
-next_of [] (suc k) e left is = let z : ◌≡◌ {A = ℕ} 0 1 = cc in absurd (omega arith)
-next_of (x ∷ es) zero e left is = (cc, cc)
-next_of (x ∷ es) (suc k) e left is = next_of es k e left is
-
 module _ (es : List Entry) (k : ℕ) (S : Sheet) (now : List Entry) (so_far : Passed es k S now) (e : Entry) (left : List Entry) (is : now ≡ e ∷ left) where
-  stands : (slice_get es k ≡ Some e) × (drop (suc k) es ≡ left)
-  stands = next_of es k e left (so_far.rest ∙ is)
+  -- the first that is left stands next
+  stands : (slice_get es k ≡ Some e) × (drop (k + 1) es ≡ left)
+  stands =
+      let here = so_far.rest ∙ is in
+      let below : k < length es = omega (arith, length-drop k es, ap length here) in
+      let split : get_or es k e ∷ drop (k + 1) es ≡ e ∷ left = sym (drop_more es k e below) ∙ here in
+      let first : get_or es k e ≡ e = cc in
+      (slice_get-get_or es k e below ∙ ap (λ x. Some x) first, cc)
 
   -- what holds of e holds of any entry that is told at k
   at_here : (P : Entry → Type 0) → P e → (d : Entry) → slice_get es k ≡ Some d → P d
@@ -67,7 +66,7 @@ module _ (es : List Entry) (k : ℕ) (S : Sheet) (now : List Entry) (so_far : Pa
             below_more (λ i. (x : Entry) → slice_get es i ≡ Some x → fault (sheet_of (take i es)) x ≡ None) k (λ i h x. so_far.faultless i x h)
             (at_here (λ x. fault (sheet_of (take k es)) x ≡ None) (sym (ap (λ Z. fault Z e) so_far.sheet) ∙ clean)) j below d at;
         sheet = after ∙ ap (λ Z. extend Z e) so_far.sheet ∙ sym (sheet_more es k e stands.0);
-        rest = rw add-one stands.1;
+        rest = stands.1;
       })
 
   pub first_fault : (n : ℕ) (r : Reason) → n ≡ k → fault S e ≡ Some r → FirstFault es (record { reason = r; place = n })

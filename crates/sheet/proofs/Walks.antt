@@ -1,18 +1,12 @@
--- A walk over a list, element by element: what is told at k stands first in what is left there.
-use Rattle.std.proofs.Common.{◌≡◌, ℕ, zero, suc, ◌+◌, ◌<◌, ◌≤◌, Bool, true, false, not, eqb, ◌&&◌, ◌||◌, List, [], ◌∷◌, length, drop, Some, None, refl, ap, ◌∙◌, add-one, arith}
+-- What iterators over lists answer, in the words of specs/.
+use Rattle.std.proofs.Common.{◌≡◌, ℕ, zero, suc, ◌+◌, ◌<◌, ◌≤◌, Bool, true, false, not, eqb, ◌&&◌, ◌||◌, List, [], ◌∷◌, length, drop, refl, ap, ◌∙◌, add-one, arith}
 use Rattle.std.specs.Iterator.{YieldsFirst}
 use Rattle.std.specs.List.{slice_get, list_all, list_any, zip}
 use Rattle.std.proofs.lemmas.Bool.{and_right}
 use Rattle.sheet.specs.Sheets.{Sheet}
 use Rattle.sheet.specs.Faults.{row_has, rows_have}
-use Rattle.std.proofs.lemmas.List.{drop_more}
-use Rattle.std.proofs.lemmas.Option.{slice_get_within, get_or_from_slice_get}
 
 module _ {X : Type 0} where
-  pub told : (xs : List X) (k : ℕ) (x : X) → slice_get xs k ≡ Some x → drop k xs ≡ x ∷ drop (k + 1) xs
-  told xs k x is =
-      drop_more xs k x (slice_get_within xs k x is) ∙ ap (λ y. y ∷ drop (k + 1) xs) (get_or_from_slice_get xs k x x is)
-
   first_suc : (xs : List X) (k : ℕ) → k < length xs → YieldsFirst (λ left. left) (drop k xs) (slice_get xs k) (drop (suc k) xs)
   first_suc [] k below = absurd (omega arith)
   first_suc (x ∷ xs) zero below = refl
@@ -21,12 +15,6 @@ module _ {X : Type 0} where
   -- what is left at k begins with what is told there
   pub first_told : (xs : List X) (k : ℕ) → k < length xs → YieldsFirst (λ left. left) (drop k xs) (slice_get xs k) (drop (k + 1) xs)
   first_told xs k below = rw add-one (first_suc xs k below)
-
-  -- nothing is told only past the end
-  pub untold : (xs : List X) (k : ℕ) → slice_get xs k ≡ None → length xs ≤ k
-  untold [] k is = omega arith
-  untold (x ∷ xs) zero is = let z : ◌≡◌ {A = ℕ} 0 1 = cc in absurd (omega arith)
-  untold (x ∷ xs) (suc k) is = let h = untold xs k is in omega arith
 
 any_not_all : (b : Bool) (xs : List ℕ) → (not b || not (list_all (λ x. eqb x 0) xs)) ≡ not (b && list_all (λ x. eqb x 0) xs)
 any_not_all true xs = refl
