@@ -4,7 +4,7 @@ ghost use Rattle.union_find.specs.Facts.{Fact};
 ghost use Rattle.union_find.specs.Tables.{Keeps};
 ghost use Rattle.list_relations.specs.Replies.{Replies, Handles};
 
-use crate::line::Remark;
+use crate::line::{Line, Remark};
 use crate::wording::Wording;
 use groups::Group;
 use refusals::Refusal;
@@ -20,16 +20,12 @@ pub enum Answer<M> {
     Told(Result<Option<M>, Refusal>),
 }
 
-/// Answers a remark on members i and j, and learns what it says.
-pub fn answer_to<M: Group>(
-    table: &mut [Link<M>],
-    i: usize,
-    j: usize,
-    remark: Remark<M>,
-) -> Answer<M>
-    ensures facts { (fs : List (Fact M)) → Keeps M.Group.own fs table.old → Replies M.Group.own fs (length table.old) i j remark result (λ fs'. Keeps M.Group.own fs' table.new) }
-    ensures table { Handles M.Group.own table.old table.new i j remark result }
+/// Answers a line, and learns what it says.
+pub fn answer_to<M: Group>(table: &mut [Link<M>], line: Line<M>) -> Answer<M>
+    ensures facts { (fs : List (Fact M)) → Keeps M.Group.own fs table.old → Replies M.Group.own fs (length table.old) line.i line.j line.remark result (λ fs'. Keeps M.Group.own fs' table.new) }
+    ensures table { Handles M.Group.own table.old table.new line.i line.j line.remark result }
 {
+    let Line { i, j, remark } = line;
     match remark {
         Remark::Says(said) => Answer::Learned(said, relate(table, i, j, said)),
         Remark::Asks => Answer::Told(relation(table, i, j)),

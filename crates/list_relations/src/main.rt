@@ -59,8 +59,8 @@ fn print_reply<M: Group + Wording>(
     let Some(line) = parse(text) else {
         return print_unreadable(rt, number);
     };
-    let Line { i, j, remark } = line;
-    let answer = answer_to(table, i, j, remark);
+    let Line { i, j, .. } = line;
+    let answer = answer_to(table, line);
     println!(rt; "line {number}: {}", Reply { i, j, answer })
 }
 

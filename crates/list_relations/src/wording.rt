@@ -55,13 +55,10 @@ impl Wording for Tick {
 }
 
 // What a digit stands for.
-fn value(c: u8) -> Option<u8>
+fn value(c: u8) -> Option<u32>
     ensures { SomeIff result (IsDigit c) (c - 48) }
 {
-    match c {
-        b'0'..=b'9' => Some(c - b'0'),
-        _ => None,
-    }
+    char::from(c).to_digit(10)
 }
 
 // The renaming whose images are these digits, the image of name 0 first.
