@@ -40,7 +40,7 @@ fn next_call<M: Copy + TryFrom<u64, Error: Drop>>(
     Some(call)
 }
 
-/// The call that a text names.
+/// The call that a text names. `FromStr` would need an error that says no more than None.
 pub fn parse<M: Copy + TryFrom<u64, Error: Drop>>(text: &str) -> Option<Call<M>> {
     let mut words = text.split_whitespace();
     let call = next_call(&mut words)?;

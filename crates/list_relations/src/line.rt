@@ -24,7 +24,7 @@ fn remark_of<M: Wording>(word: &str) -> Option<Remark<M>> {
     Some(Remark::Says(M::read(word)?))
 }
 
-/// The line that a text stands for.
+/// The line that a text stands for. `FromStr` would need an error that says no more than None.
 pub fn parse<M: Wording>(text: &str) -> Option<Line<M>> {
     let mut words = text.split_whitespace();
     let i = words.next()?.parse::<usize>().ok()?;

@@ -46,6 +46,7 @@ fn is_written_back(bytes: &[u8]) -> bool
     ensures refused { result ≡ true → Accepted bytes.now }
 {
     let mut buffer = [0; ROOM];
+    // Tried as `is_ok_and`, which asks a bound on n of its closure: its goals stayed open.
     match write(&Packed { bytes }, &mut buffer) {
         Ok(n) => &buffer[..n] == bytes,
         Err(_) => false,

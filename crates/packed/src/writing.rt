@@ -28,7 +28,8 @@ fn fits<S: SheetSource>(source: &S, room: usize) -> bool
         .is_some_and(|left| left > 0)
 }
 
-// Writes the entry's bytes from `at` on, and answers where they end.
+// Writes the entry's bytes from `at` on, and answers where they end. A buffer that is split as it fills is no plainer: what the
+// whole holds afterwards would have to be said of its parts.
 #[tactic(auto, using(crate::proofs::Packing::width_most, crate::proofs::Packing::length_bytes, crate::proofs::Laying::first_bytes))]
 fn put(buffer: &mut [u8], at: usize, e: Entry) -> usize
     requires { at + length (bytes_of e) ≤ length buffer.old }

@@ -29,6 +29,7 @@ pub const ROWS: usize = 256;
 pub const PARTS: u8 = 4;
 
 /// The four groups of a sheet, each in the order of its numbers. A variable is its arity.
+// What is declared names other declarations by number: so does the format, and there is no heap.
 #[derive(Drop)]
 pub struct Tables {
     pub arities: Bounded<Arity, ARITIES>,
@@ -67,7 +68,7 @@ impl Tables {
         }
     }
 
-    // Whether `a` is the number of a name arity.
+    // Whether `a` is the number of a name arity. With the next a pair, but each is one line, and a kind is no value of its own.
     fn names_names(&self, a: u8) -> bool
         ensures { result ≡ names_names (sheet_in self.now) a }
     {

@@ -32,11 +32,12 @@ impl Answer {
     }
 
     pub fn of_reading(bytes: &[u8]) -> Answer {
-        Answer(read(bytes).map(|n| Found::Entries(n)))
+        Answer(read(bytes).map(Found::Entries))
     }
 
     pub fn of_writing<S: SheetSource>(heap: Global, source: &S) -> Result<Answer, AllocError> {
         let mut buffer = [0; ROOM];
+        // A closure under `map` could not pass on that memory has run out.
         let answer = match write(source, &mut buffer) {
             Ok(n) => Ok(Found::Written(buffer[..n].to_vec(heap)?)),
             Err(refusal) => Err(refusal),

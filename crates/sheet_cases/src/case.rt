@@ -30,7 +30,7 @@ fn records(heap: Global, bytes: &[u8]) -> Result<Vec<Entry>, Fault> {
 }
 
 impl Case<'_> {
-    /// The case of a line.
+    /// The case of a line, whose label it borrows: `FromStr` could not.
     pub fn parse<'a>(heap: Global, line: &'a str) -> Result<Case<'a>, Fault> {
         let (label, rest) = line.split_once(' ').ok_or(Fault::Malformed)?;
         let (word, digits) = rest.split_once(' ').ok_or(Fault::Malformed)?;

@@ -6,7 +6,7 @@ use faults::Fault;
 use std::alloc::Global;
 use std::fmt;
 
-// What the digit stands for.
+// What the digit stands for. The library's `to_digit` takes small letters too.
 fn value(c: u8) -> Option<u8>
     ensures { MatchOption result ((v : ℕ) → v < 16 → digit v ≢ c) (λ v. (v < 16) × (digit v ≡ c)) }
 {

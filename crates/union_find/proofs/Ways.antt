@@ -77,8 +77,15 @@ module _ {M : Type 0} (G : Ghosts M) (L : LawsOf G) {t : List (Link M)} where
       solve_right G L g x (compose h y) f.fair (way_lawful w) (chain_move c (up f w) p v q)
       ∙ sym (L.associative (inverse g) h y (L.lawful_inverse g f.fair) (chain_lawful G L linked_sound c) (way_lawful v))
 
-  module _ {i j r s : ℕ} {x y : M} (w : Way G t i r x) (p : Root G t r) (v : Way G t j s y) (q : Root G t s) where
-    -- what two ways up tell where they meet
+  -- two ways up, of i and of j
+  module _ {i j i' j' r s : ℕ} {x y : M} (at_i : i' ≡ i) (at_j : j' ≡ j) (up_i : Way G t i' r x) (p : Root G t r) (up_j : Way G t j' s y) (q : Root G t s) where
+    w : Way G t i r x
+    w = way_from up_i at_i
+
+    v : Way G t j s y
+    v = way_from up_j at_j
+
+    -- what they tell where they meet
     pub told_some : r ≡ s → (z : M) → z ≡ compose x (inverse y) → Told (Chain G (Linked G t) i j) (Some z)
     told_some e z is =
         let v' : Way G t j r y = subst (λ n. Way G t j n y) (sym e) v in

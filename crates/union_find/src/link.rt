@@ -6,6 +6,7 @@ use crate::lawful::Lawful;
 use groups::Group;
 
 /// What a member is: `parent` moved by `step`. It says so only where the parent is a smaller member and the step lawful.
+// Members are numbers, since the table is lent and there is no heap.
 #[derive(Clone, Copy, PartialEq, Eq, Debug)]
 pub struct Link<G> {
     pub parent: u8,

@@ -7,6 +7,7 @@ use crate::tables::ARITIES;
 mod growth;
 
 /// Arity `a` is in the set where `at[a]` is true.
+// A set of the library needs a heap.
 #[derive(Drop)]
 pub struct Marks {
     at: [bool; ARITIES],

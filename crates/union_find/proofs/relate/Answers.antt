@@ -27,7 +27,7 @@ returns-then-equals g c =
     let yes = accepts_move ok c.in-Some.ensures.1 in
     let G = g.G.Group in
     let L = g.met.G.Group.group in
-    let told = told_some G L (way_from G L a.way ei) a.root (way_from G L b.way ej) b.root c.if-a-b.true _
+    let told = told_some G L ei ej a.way a.root b.way b.root c.if-a-b.true _
     (sym c.if-equals.ensures ∙ c.between-told.ensures) in
     record { facts = λ fs k. ((yes, kept_told k told), k); table = ((yes, told), refl); one = one_answer _ g.G.Group _ _ _ _ }
 
@@ -39,7 +39,7 @@ returns-then-a-b g c =
     let yes = accepts_move ok c.in-Some.ensures.1 in
     let G = g.G.Group in
     let L = g.met.G.Group.group in
-    let told = told_some G L (way_from G L a.way ei) a.root (way_from G L b.way ej) b.root c.if-a-b.true _ c.between-told.ensures in
+    let told = told_some G L ei ej a.way a.root b.way b.root c.if-a-b.true _ c.between-told.ensures in
     let other = c.if-equals.ensures in
     record { facts = λ fs k. ((yes, (kept_told k told, other)), k); table = ((yes, (told, other)), refl); one = one_answer _ g.G.Group _ _ _ _ }
 
@@ -50,18 +50,16 @@ returns g c =
     let (ok, ei, ej) = c.in_ok-i.ensures in
     let a = c.climb-a.ensures in
     let b = c.climb-b.ensures in
-    let way_i = way_from G L a.way ei in
-    let way_j = way_from G L b.way ej in
     let l = c.in-Some.ensures.1 in
     let yes = accepts_move ok l in
-    let told = told_none G L way_i a.root way_j b.root c.if-a-b.false in
+    let told = told_none G L ei ej a.way a.root b.way b.root c.if-a-b.false in
     let new : Changed G c.args.table.now c.join.new.table c.args.i c.args.j c.args.g = record {
       top_i = c.climb-a.result.parent;
       top_j = c.climb-b.result.parent;
       x = c.climb-a.result.step;
       y = c.climb-b.result.step;
-      way_i = way_i;
-      way_j = way_j;
+      way_i = way_from G L a.way ei;
+      way_j = way_from G L b.way ej;
       root_i = a.root;
       root_j = b.root;
       i_below = rw c.in-Some.ensures.0 at c.join.ensures.left;
