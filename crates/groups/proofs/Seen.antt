@@ -2,7 +2,7 @@
 --
 --   bit n v     bit v of n
 --   seen p k    the number with the bits p j, for each j below k
-use Rattle.std.proofs.Common.{◌≡◌, ℕ, zero, suc, ◌+◌, ◌-◌, ◌*◌, ◌/◌, ◌%◌, ◌^◌, ◌<◌, ◌≤◌, eqb, MatchBool, sym, refl, ap, ◌∙◌, subst, ap₂, inl, inr, add-zero, one-mul, pow-suc, arith}
+use Rattle.std.proofs.Common.{◌≡◌, ℕ, zero, suc, ◌+◌, ◌-◌, ◌*◌, ◌/◌, ◌%◌, ◌^◌, ◌<◌, ◌≤◌, eqb, MatchBool, sym, refl, ap, ◌∙◌, subst, ap₂, inl, inr, add-zero, pow-suc, arith}
 use native.Mathlib.Nat.{pow-le-pow_right}
 use lib.Bits.{bit_or, or_add_and, or_shr, or_mod, or_zero_r}
 use lib.Count.{ones, ones_step, ones_cat, ones-ones}
@@ -11,7 +11,7 @@ use Rattle.std.proofs.lemmas.Bool.{cases_eq, cases_lt, cases_order, eq-eqb, ne_e
 use Rattle.groups.specs.Renamings.{names, image, Lawful}
 use Rattle.groups.specs.Digits.{digit, digit_lt, digit-zero, digit-suc, digit_past, same_digits, alone_here, alone_elsewhere, alone_lt, digit-bit_or, or_digits_lt}
 use Rattle.groups.specs.Packs.{image-lt}
-use Rattle.groups.specs.Gathers.{gather, gather_more, gather-lt, gather_here, gather_elsewhere, gather_from}
+use Rattle.groups.specs.Gathers.{gather, gather-lt, gather_here, gather_elsewhere, gather_from}
 
 abbrev pub bit : ℕ → ℕ → ℕ
 bit n v = digit 2 n v
@@ -58,10 +58,6 @@ or_again m a v p q e =
     ])
 
 module _ (p : ℕ → ℕ) where
-  pub seen_next : (m k out y : ℕ) → out ≡ seen p k → y ≡ p k → p k < m → bit_or out (1 * 2 ^ y % 2 ^ m) ≡ seen p (k + 1)
-  seen_next m k out y e ey q =
-      rw (← one-mul y, ← one-mul m) (gather_more 1 (λ _. 1) p m k out 1 y e refl ey (omega arith) q)
-
   pub seen_lt : (m k : ℕ) → ((j : ℕ) → j < k → p j < m) → seen p k < 2 ^ m
   seen_lt m k h = gather-lt 1 (λ _. 1) p m k (λ j q. omega arith) h
 

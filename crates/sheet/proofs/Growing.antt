@@ -116,9 +116,6 @@ pub record Swept (S : Sheet) (m : Marks) (a : ℕ) (grew : Bool) (n : Marks) : T
   pub done : grew ≡ false → (k : ℕ) → k < a → grows S n k ≡ true → marked n k ≡ true
 
 module _ (S : Sheet) (m : Marks) where
-  pub swept_none : Swept S m 0 false m
-  swept_none = record { sound = λ s. s; fewer = omega arith; done = λ _ k below. absurd (omega arith) }
-
   pub swept_skip : (a : ℕ) (grew : Bool) (n : Marks) → (grows S n a ≡ true → marked n a ≡ true) → Swept S m a grew n → Swept S m (a + 1) grew n
   swept_skip a grew n here so_far =
       record { sound = so_far.sound; fewer = so_far.fewer; done = λ same. below_more (λ k. grows S n k ≡ true → marked n k ≡ true) a (so_far.done same) here }

@@ -1,5 +1,5 @@
 -- A root and all that hang by it are hung by a smaller member: the chains are those with one fact more.
-use Rattle.std.proofs.Common.{◌≡◌, ℕ, ◌+◌, ◌<◌, ◌≤◌, ◌≢◌, ◌⊎◌, List, length, get_or, set, sym, ap, ◌∙◌, subst, inl, inr, arith, get_or-set_other, get_or-set_same, below_more, rules, ◌-◌, take, drop}
+use Rattle.std.proofs.Common.{◌≡◌, ℕ, ◌+◌, ◌<◌, ◌≤◌, ◌≢◌, ◌⊎◌, List, length, get_or, set, sym, ap, ◌∙◌, subst, inl, inr, arith, get_or-set_other, rules, ◌-◌, take, drop}
 use Rattle.std.proofs.lemmas.Bool.{cases_eq, cases_lt}
 use Rattle.std.proofs.lemmas.List.{get_or_default, places}
 use borrow.Rule.Slice.PartMut.{put_mid}
@@ -19,15 +19,6 @@ pub record Lifting {M : Type 0} (G : Ghosts M) (s s' : List (Link M)) (a b : ℕ
 module _ {M : Type 0} {G : Ghosts M} where
   same_link : {t t' : List (Link M)} {k j : ℕ} {g : M} → entry_of G t' k ≡ entry_of G t k → Linked G t k j g → Linked G t' k j g
   same_link e f = record { member = f.member; lower = f.lower; fair = f.fair; there = e ∙ f.there }
-
-  pub lift_more : {s s' : List (Link M)} {a b : ℕ} {m : M} {x : Link M} {n : ℕ} → Lifting G s s' a b m n → n < length s' → (d : Link M) → Lifts G a b m (get_or s' n d) x →
-      Lifting G s (set s' n x) a b m (n + 1)
-  lift_more {s} {s'} {a} {b} {m} {x} {n} I p d here = record {
-    done = below_more _ _
-        (λ k q. let ne : k ≢ n = omega arith in rw get_or-set_other (I.done k q))
-        (rw get_or-set_same (subst (λ l. Lifts G a b m l x) (get_or_default s' n d _ p ∙ I.rest n (omega arith)) here));
-    rest = λ k q. let ne : k ≢ n = omega arith in get_or-set_other s' n k x _ ne ∙ I.rest k (omega arith);
-  }
 
   -- entries a + 1 to members - 1 of t are s' now, and entry a says b and m
   module _ (t s' : List (Link M)) (a b : ℕ) (m : M) (E : EachLifted G (take (members - (a + 1)) (drop (a + 1) t)) s' a b m) (p : a < members) (q : members ≤ length t) where
