@@ -88,6 +88,8 @@ fn lift<G: Group>(entries: &mut [Link<G>], a: u8, up: &Up<G>)
 }
 
 // Hangs the root a by a smaller member, and by that also all that hung by a: so every way up stays one link long.
+// No part of `relate`, in which its loop was measured to take half as long again.
+#[inline(never)]
 fn hang<G: Group>(table: &mut [Link<G>], a: u8, up: &Up<G>)
     requires room { members ≤ length table.old }
     requires lower { up.now.parent < a }
