@@ -1,5 +1,5 @@
 //! The calls that lines name.
-use std::str::SplitWhitespace;
+use std::str::{FromStr, SplitWhitespace};
 
 /// A call at one kind of moves.
 #[derive(Clone, Copy)]
@@ -40,12 +40,19 @@ fn next_call<M: Copy + TryFrom<u64, Error: Drop>>(
     Some(call)
 }
 
-/// The call that a text names. `FromStr` would need an error that says no more than None.
-pub fn parse<M: Copy + TryFrom<u64, Error: Drop>>(text: &str) -> Option<Call<M>> {
-    let mut words = text.split_whitespace();
-    let call = next_call(&mut words)?;
-    match words.next() {
-        Some(_) => None,
-        None => Some(call),
+/// A text that names no call.
+#[derive(Clone, Copy)]
+pub struct NoCall;
+
+impl<M: Copy + TryFrom<u64, Error: Drop>> FromStr for Call<M> {
+    type Err = NoCall;
+
+    fn from_str(text: &str) -> Result<Call<M>, NoCall> {
+        let mut words = text.split_whitespace();
+        let call = next_call(&mut words).ok_or(NoCall)?;
+        if words.next().is_some() {
+            return Err(NoCall);
+        }
+        Ok(call)
     }
 }

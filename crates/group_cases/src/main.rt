@@ -20,7 +20,7 @@ mod call;
 mod names;
 
 use answer::answer_to;
-use call::{Call, parse};
+use call::Call;
 use faults::Fault;
 use groups::Group;
 use groups::renaming::Renaming;
@@ -52,7 +52,7 @@ fn answered<M: Group + Into<u64> + TryFrom<u64, Error: Drop>>(
     table: &mut Vec<Link<M>>,
     text: &str,
 ) -> Result<String, Fault> {
-    let call = parse(text).ok_or(Fault::Malformed)?;
+    let call = text.parse::<Call<M>>().map_err(|_| Fault::Malformed)?;
     if let Call::Open(n) = call {
         *table = full_table(heap, n)?;
     }

@@ -1,5 +1,6 @@
 //! Lines about two members.
 use crate::wording::Wording;
+use std::str::FromStr;
 
 /// What a line says of its members, i and j.
 #[derive(Clone, Copy)]
@@ -24,14 +25,22 @@ fn remark_of<M: Wording>(word: &str) -> Option<Remark<M>> {
     Some(Remark::Says(M::read(word)?))
 }
 
-/// The line that a text stands for. `FromStr` would need an error that says no more than None.
-pub fn parse<M: Wording>(text: &str) -> Option<Line<M>> {
-    let mut words = text.split_whitespace();
-    let i = words.next()?.parse::<usize>().ok()?;
-    let j = words.next()?.parse::<usize>().ok()?;
-    let remark = remark_of(words.next()?)?;
-    match words.next() {
-        Some(_) => None,
-        None => Some(Line { i, j, remark }),
+/// A text that is no line.
+#[derive(Clone, Copy)]
+pub struct Unreadable;
+
+impl<M: Wording> FromStr for Line<M> {
+    type Err = Unreadable;
+
+    fn from_str(text: &str) -> Result<Line<M>, Unreadable> {
+        let mut words = text.split_whitespace();
+        let mut word = || words.next().ok_or(Unreadable);
+        let i = word()?.parse::<usize>().map_err(|_| Unreadable)?;
+        let j = word()?.parse::<usize>().map_err(|_| Unreadable)?;
+        let remark = remark_of(word()?).ok_or(Unreadable)?;
+        if word().is_ok() {
+            return Err(Unreadable);
+        }
+        Ok(Line { i, j, remark })
     }
 }

@@ -13,7 +13,7 @@ use answer::{Reply, answer_to};
 use groups::Group;
 use groups::renaming::Renaming;
 use groups::tick::Tick;
-use line::{Line, parse};
+use line::Line;
 use std::io;
 use std::io::{BufRead, BufReader};
 use union_find::link::Link;
@@ -56,7 +56,7 @@ fn print_reply<M: Group + Wording>(
     table: &mut [Link<M>],
     text: &str,
 ) -> io::Result<()> {
-    let Some(line) = parse(text) else {
+    let Ok(line) = text.parse::<Line<M>>() else {
         return print_unreadable(rt, number);
     };
     let Line { i, j, .. } = line;

@@ -14,8 +14,8 @@ use packed::writing::write;
 use reasons::Declined;
 use refusals::Refusal;
 use sheet::tables::Tables;
-use std::io;
 use std::io::Read;
+use std::{fmt, io};
 use words::InWords;
 
 // How much of the input is read; no lawful sheet has more than 2140 bytes.
@@ -46,20 +46,23 @@ fn is_written_back(bytes: &[u8]) -> bool
     ensures refused { result ≡ true → Accepted bytes.now }
 {
     let mut buffer = [0; ROOM];
-    // Tried as `is_ok_and`, which asks a bound on n of its closure: its goals stayed open.
-    match write(&Packed { bytes }, &mut buffer) {
-        Ok(n) => &buffer[..n] == bytes,
-        Err(_) => false,
+    matches!(write(&Packed { bytes }, &mut buffer), Ok(n) if &buffer[..n] == bytes)
+}
+
+// The declarations of a group in words, each after its number.
+fn print_group<T: Copy>(rt: &impl Print, name: &str, group: &[T]) -> io::Result<()>
+where
+    InWords<T>: fmt::Display,
+{
+    for (k, item) in group.iter().enumerate() {
+        println!(rt; "{name} {k}: {}", InWords(*item))?;
     }
+    Ok(())
 }
 
 fn print_tables(rt: &impl Print, tables: &Tables) -> io::Result<()> {
-    for (k, arity) in tables.arities.as_slice().iter().enumerate() {
-        println!(rt; "arity {k}: {}", InWords(*arity))?;
-    }
-    for (k, constructor) in tables.constructors.as_slice().iter().enumerate() {
-        println!(rt; "constructor {k}: {}", InWords(*constructor))?;
-    }
+    print_group(rt, "arity", tables.arities.as_slice())?;
+    print_group(rt, "constructor", tables.constructors.as_slice())?;
     for (k, arity) in tables.variables.as_slice().iter().enumerate() {
         println!(rt; "variable {k}: arity {arity}")?;
     }

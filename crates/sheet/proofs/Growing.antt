@@ -1,5 +1,5 @@
 -- Which arities have a tree, from those that are known to.
-use Rattle.std.proofs.Common.{◌≡◌, ℕ, zero, suc, ◌+◌, ◌<◌, ◌≤◌, Bool, true, false, cond, not, ◌&&◌, eqb, ◌⊎◌, List, [], ◌∷◌, length, get_or, set, Some, None, Option, sym, refl, ap, ◌∙◌, subst, inl, inr, arith, lit<, below_more}
+use Rattle.std.proofs.Common.{◌≡◌, ℕ, zero, suc, ◌+◌, ◌<◌, ◌≤◌, Bool, true, false, not, ◌&&◌, eqb, List, [], ◌∷◌, length, get_or, set, Some, None, Option, sym, refl, ap, ◌∙◌, subst, inl, inr, arith, lit<}
 use Rattle.std.specs.List.{slice_get, list_all}
 use Rattle.std.proofs.lemmas.List.{get_or-set_other}
 use Rattle.std.proofs.lemmas.Bool.{both_ways, not-true, not-false, and_parts, and_from, eqb-true, eq-eqb, false≢true, cases_eq}
@@ -15,7 +15,7 @@ use Rattle.sheet.specs.Faults.{holds, is_data}
 use Rattle.std.specs.Option.{MatchOption}
 use Rattle.sheet.specs.Tables.{LowestBarrenIn}
 use Rattle.sheet.specs.Arities.{HasArity, HasArities, Inhabited}
-use Rattle.sheet.specs.Growth.{marked, serves, makes_one, grows, grows_as, Sound, Closed, left_out}
+use Rattle.sheet.specs.Growth.{marked, serves, makes_one, grows, grows_as, Sound, Closed, Missing, left_out}
 use Rattle.std.proofs.lemmas.Option.{slice_get_within, slice_get-get_or, get_or_from_slice_get}
 use Rattle.std.proofs.lemmas.List.Folds.{Any-from_list_any, list_any_at}
 
@@ -109,33 +109,31 @@ left_out-set (false ∷ bs) zero below out = omega arith
 left_out-set (true ∷ bs) zero below out = absurd (false≢true (sym out))
 left_out-set (b ∷ bs) (suc i) below out = let h = left_out-set bs i (omega arith) out in omega arith
 
--- how far a sweep has come: below a nothing is left to add, unless something was added
-pub record Swept (S : Sheet) (m : Marks) (a : ℕ) (grew : Bool) (n : Marks) : Type 0 where
-  pub sound : Sound S m → Sound S n
-  pub fewer : left_out n.at + cond grew 1 0 ≤ left_out m.at
-  pub done : grew ≡ false → (k : ℕ) → k < a → grows S n k ≡ true → marked n k ≡ true
+-- an arity joins the set that has a tree by those in it
+module _ (S : Sheet) (m n : Marks) (a : ℕ) (below : a < 64) (out : marked m a ≡ false) (grow : grows S m a ≡ true) (added : n.at ≡ set m.at a true) where
+  pub added_fewer : left_out n.at < left_out m.at
+  added_fewer = let one = left_out-set m.at a (omega (arith, m.wide)) out in let same = ap left_out added in omega arith
 
-module _ (S : Sheet) (m : Marks) where
-  pub swept_skip : (a : ℕ) (grew : Bool) (n : Marks) → (grows S n a ≡ true → marked n a ≡ true) → Swept S m a grew n → Swept S m (a + 1) grew n
-  swept_skip a grew n here so_far =
-      record { sound = so_far.sound; fewer = so_far.fewer; done = λ same. below_more (λ k. grows S n k ≡ true → marked n k ≡ true) a (so_far.done same) here }
+  pub added_sound : Sound S m → Sound S n
+  added_sound s b h =
+      elim (cases_eq b a) [
+        | inl e ↦ subst (Inhabited S) (sym e) (grows_sound S m s a grow)
+        | inr apart ↦ s b (sym (ap (λ bs. get_or bs b false) added ∙ get_or-set_other m.at a b true false apart) ∙ h)
+      ]
 
-  pub swept_add : (a : ℕ) (grew : Bool) (n n' : Marks) → a < 64 → marked n a ≡ false → grows S n a ≡ true → n'.at ≡ set n.at a true
-      → Swept S m a grew n → Swept S m (a + 1) true n'
-  swept_add a grew n n' below out grow added so_far =
-      record {
-        sound = λ s b h. sound_add (so_far.sound s) b h (cases_eq b a);
-        fewer =
-            let one = left_out-set n.at a (omega (arith, n.wide)) out in
-            let same = ap left_out added in
-            let f = so_far.fewer in
-            omega arith;
-        done = λ same. absurd (false≢true (sym same));
-      }
-    where
-      sound_add : Sound S n → (b : ℕ) → marked n' b ≡ true → (b ≡ a) ⊎ (b ≡ a → ⊥) → Inhabited S b
-      sound_add s b h (inl e) = subst (Inhabited S) (sym e) (grows_sound S n s a grow)
-      sound_add s b h (inr apart) = s b (sym (ap (λ bs. get_or bs b false) added ∙ get_or-set_other n.at a b true false apart) ∙ h)
+none_missing : (b g : Bool) → (not b && g) ≡ false → g ≡ true → b ≡ true
+none_missing true g none grow = refl
+none_missing false g none grow = absurd (false≢true (sym none ∙ grow))
+
+-- what a search through all arities finds
+pub missing_of : (S : Sheet) (m : Marks) (r : Option ℕ)
+    → MatchOption r ((a : ℕ) → 0 ≤ a → a < 64 → (not (marked m a) && grows S m a) ≡ false)
+    (λ b. (0 ≤ b) × (b < 64) × ((not (marked m b) && grows S m b) ≡ true) × ((a : ℕ) → 0 ≤ a → a < b → (not (marked m a) && grows S m a) ≡ false))
+    → Missing S m r
+missing_of S m None found = λ a below. none_missing (marked m a) (grows S m a) (found a (omega arith) below)
+missing_of S m (Some b) found =
+    let h = and_parts (not (marked m b)) (grows S m b) found.2 in
+    (found.1, not-true (marked m b) h.0, h.1)
 
 pub data_only : (o : Option Arity) → holds is_data o ≡ true → o ≡ Some Data
 data_only None h = absurd (false≢true h)

@@ -4,7 +4,7 @@
 -- grows S m a     arity a has a tree where those of m have
 -- Sound S m       every arity in m has a tree
 -- Closed S m      what has a tree where those of m have is in m
--- Sweeps S m r n  from m to n: r says whether anything was added
+-- Missing S m r   an arity that has a tree where those of m have, and is not in m, if any
 use Rattle.std.specs.Prelude.{◌≡◌, ℕ, ◌+◌, ◌<◌, Bool, true, false, cond, ◌&&◌, List, [], ◌∷◌, Some, None, Option, ◌==◌, slice_index_or}
 use Rattle.std.specs.List.{slice_get, list_all, list_any}
 use Rattle.sheet.specs.declared.tables.marks.Marks.{Marks}
@@ -51,7 +51,6 @@ abbrev pub left_out : List Bool → ℕ
 left_out [] = 0
 left_out (b ∷ bs) = cond b 0 1 + left_out bs
 
-pub record Sweeps (S : Sheet) (m : Marks) (r : Bool) (n : Marks) : Type 0 where
-  pub sound : Sound S m → Sound S n
-  pub more : r ≡ true → left_out n.at < left_out m.at
-  pub done : r ≡ false → Closed S n
+abbrev pub Missing : Sheet → Marks → Option ℕ → Type 0
+Missing S m None = Closed S m
+Missing S m (Some a) = (a < most_arities) × (marked m a ≡ false) × (grows S m a ≡ true)

@@ -68,18 +68,12 @@ impl Tables {
         }
     }
 
-    // Whether `a` is the number of a name arity. With the next a pair, but each is one line, and a kind is no value of its own.
-    fn names_names(&self, a: u8) -> bool
-        ensures { result ≡ names_names (sheet_in self.now) a }
+    // Whether `a` is the number of this arity: a name or a data arity.
+    fn is_arity(&self, a: usize, arity: Arity) -> bool
+        ensures name { arity ≡ Arity.Name → result ≡ names_names (sheet_in self.now) a }
+        ensures data { arity ≡ Arity.Data → result ≡ holds is_data (slice_get (sheet_in self.now).arities a) }
     {
-        matches!(self.arities.get(usize::from(a)), Some(Arity::Name))
-    }
-
-    // Whether `a` is the number of a data arity.
-    fn names_data(&self, a: usize) -> bool
-        ensures { result ≡ holds is_data (slice_get (sheet_in self.now).arities a) }
-    {
-        matches!(self.arities.get(a), Some(Arity::Data))
+        self.arities.get(a) == Some(arity)
     }
 
     // Whether variable `v` has the arity `a`.
@@ -99,8 +93,7 @@ impl Tables {
                 .constructors
                 .get(usize::from(constructor))
                 .map(|c| c.makes),
-            Row::Tuple { arity, .. } => Some(arity),
-            Row::Bind { arity, .. } => Some(arity),
+            Row::Tuple { arity, .. } | Row::Bind { arity, .. } => Some(arity),
         }
     }
 
@@ -145,7 +138,7 @@ impl Tables {
         self.variables
             .as_slice()
             .iter()
-            .filter(|a| self.names_names(**a))
+            .filter(|a| self.is_arity(usize::from(**a), Arity::Name))
             .count()
     }
 }

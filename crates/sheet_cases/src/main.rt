@@ -16,6 +16,9 @@ use std::alloc::Global;
 use std::io;
 use std::io::{BufRead, BufReader};
 
+// No packed form of a lawful sheet is longer.
+const ROOM: usize = 4096;
+
 // The answer line of a case.
 fn outcome(heap: Global, line: &str) -> Result<String, Fault> {
     let Case { label, form } = Case::parse(heap, line)?;
@@ -31,7 +34,8 @@ fn outcome(heap: Global, line: &str) -> Result<String, Fault> {
                 table: entries.as_slice(),
             };
             let check = Answer::of_check(&records);
-            let write = Answer::of_writing(heap, &records)?;
+            let mut buffer = [0; ROOM];
+            let write = Answer::of_writing(&records, &mut buffer);
             format!(in heap; "{label} check {check} write {write}")?
         }
     };

@@ -172,9 +172,7 @@ pub fn relate<G: Group>(
     ensures one { OneAnswer G.Group.own (Chain G.Group.own (Linked G.Group.own table.old) i j) (length table.old) i j g }
 {
     let (i, j) = pair(table.len(), i, j)?;
-    let Some(said) = Lawful::of(g) else {
-        return Err(Reason::Unlawful.into());
-    };
+    let said = Lawful::of(g).ok_or(Reason::Unlawful)?;
     let a = climb(table, i);
     let b = climb(table, j);
     if a.parent == b.parent {

@@ -88,7 +88,7 @@ impl Tables {
             Item::Constructor(_) => self.constructors.len() >= CONSTRUCTORS,
             Item::Variable(a) => {
                 self.variables.len() >= VARIABLES
-                    || self.names_names(a) && self.name_variables() >= NAME_VARIABLES
+                    || self.is_arity(usize::from(a), Arity::Name) && self.name_variables() >= NAME_VARIABLES
             }
             Item::Row(_) => self.rows.len() >= ROWS,
         }
@@ -144,19 +144,19 @@ impl Tables {
                 .constructors
                 .get(usize::from(constructor))
                 .is_some_and(|c| self.row_has(c.takes, row)),
-            Row::Tuple { arity, rows } => match self.arities.get(usize::from(arity)) {
-                Some(Arity::Tuple(parts)) => self.rows_have(parts, rows),
-                _ => false,
-            },
+            Row::Tuple { arity, rows } => matches!(
+                self.arities.get(usize::from(arity)),
+                Some(Arity::Tuple(parts)) if self.rows_have(parts, rows)
+            ),
             Row::Bind {
                 arity,
                 variable,
                 row,
-            } => match self.arities.get(usize::from(arity)) {
-                Some(Arity::Binding { names, body }) => self.variable_has(names, variable)
-                    && self.row_has(body, row),
-                _ => false,
-            },
+            } => matches!(
+                self.arities.get(usize::from(arity)),
+                Some(Arity::Binding { names, body })
+                    if self.variable_has(names, variable) && self.row_has(body, row)
+            ),
         }
     }
 
@@ -165,9 +165,9 @@ impl Tables {
         ensures { result ≡ well_sorted (sheet_in self.now) item }
     {
         match item {
-            Item::Arity(Arity::Binding { names, .. }) => self.names_names(names),
+            Item::Arity(Arity::Binding { names, .. }) => self.is_arity(usize::from(names), Arity::Name),
             Item::Arity(_) => true,
-            Item::Constructor(c) => self.names_data(usize::from(c.makes)),
+            Item::Constructor(c) => self.is_arity(usize::from(c.makes), Arity::Data),
             Item::Variable(_) => true,
             Item::Row(row) => self.is_row_sorted(row),
         }

@@ -2,7 +2,7 @@
 ghost use Rattle.std.specs.Prelude.{◌≡◌, ℕ, ◌<◌, true, false, slice_set};
 ghost use Rattle.sheet.specs.Limits.{most_arities};
 ghost use Rattle.sheet.specs.Parts.{parts};
-ghost use Rattle.sheet.specs.Growth.{marked, serves, grows, makes_one, all_marked, Sound, Closed, Sweeps};
+ghost use Rattle.sheet.specs.Growth.{marked, serves, grows, makes_one, all_marked, Sound, Closed, Missing};
 ghost use Rattle.sheet.specs.Tables.{sheet_in, LowestBarrenIn};
 
 use crate::item::{Arity, Constructor, Parts};
@@ -73,19 +73,11 @@ impl Tables {
         }
     }
 
-    // Adds to the set what has a tree by it; whether there was any.
-    fn sweep(&self, marks: &mut Marks) -> bool
-        ensures { Sweeps (sheet_in self.now) marks.old result marks.new }
+    // The lowest arity that has a tree by those of the set, and is not in it.
+    fn missing(&self, marks: &Marks) -> Option<usize>
+        ensures { Missing (sheet_in self.now) marks.now result }
     {
-        let mut grew = false;
-        // By number: the set changes while it is read.
-        for a in 0..ARITIES {
-            if !marks.has(a) && self.grows(marks, a) {
-                marks.add(a);
-                grew = true;
-            }
-        }
-        grew
+        (0..ARITIES).find(|a| !marks.has(*a) && self.grows(marks, *a))
     }
 
     // The arities that have a tree.
@@ -94,7 +86,9 @@ impl Tables {
         ensures closed { Closed (sheet_in self.now) result }
     {
         let mut marks = Marks::none();
-        while self.sweep(&mut marks) {}
+        while let Some(a) = self.missing(&marks) {
+            marks.add(a);
+        }
         marks
     }
 
@@ -103,6 +97,6 @@ impl Tables {
         ensures { LowestBarrenIn (sheet_in self.now) result }
     {
         let marks = self.inhabited();
-        (0..ARITIES).find(|a| self.names_data(*a) && !marks.has(*a))
+        (0..ARITIES).find(|a| self.is_arity(*a, Arity::Data) && !marks.has(*a))
     }
 }
