@@ -4,7 +4,7 @@ mod changes;
 mod reads;
 
 /// The first `len` of `slots` are the list; the others are spare.
-// By hand since there is no heap, and the library's list of fixed room asks for a default element. No model: users rest on `room`.
+// By hand, since the kit's `ArrayVec` asks a default element of its users, which `new` does not. No model: users rest on `room`.
 #[derive(Drop)]
 pub struct Bounded<T: Copy, const N: usize> {
     slots: [T; N],

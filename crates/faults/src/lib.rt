@@ -9,7 +9,7 @@ use std::alloc::{AllocError, AllocFailed};
 /// Why a line has no answer.
 #[derive(Drop)]
 pub enum Fault {
-    /// It is no case.
+    /// It is not what it should be: a case, or a call.
     Malformed,
     Memory(AllocError),
 }

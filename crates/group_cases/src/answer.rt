@@ -22,6 +22,7 @@ pub fn answer_to<M: Group>(table: &mut [Link<M>], call: Call<M>) -> Result<Answe
         Call::Identity => Answer::Move(Some(M::identity())),
         Call::Lawful(a) => Answer::Truth(a.is_lawful()),
         Call::Equals(a, b) => Answer::Truth(a.equals(b)),
+        // Also of unlawful moves, which has to end.
         Call::Compose(a, b) => {
             let fair = a.is_lawful() && b.is_lawful();
             Answer::Move(fair.then_some(a.compose(b)))

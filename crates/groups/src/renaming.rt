@@ -62,7 +62,8 @@ impl Group for Renaming {
     // since there are no more images than names.
     fn is_lawful(self) -> bool {
         let mut seen: u64 = 0;
-        // This loop and the two below go over names, not over a slice: a fold over them is no plainer.
+        // This loop and the two below go over names, not over a slice: a fold over them is no plainer, nor is one loop for all
+        // three, to which each would give its digits and their places as closures.
         for i in 0..NAMES {
             seen |= 1 << self.image(i);
         }

@@ -12,6 +12,7 @@ use std::fmt;
 use union_find::link::{Link, Related};
 use union_find::{relate, relation};
 
+// Each holds the whole answer of its call, as the definitions of an answer do: with the refusals outside, no line would be shorter.
 #[derive(Clone, Copy)]
 pub enum Answer<M> {
     /// What came of the fact by the first move.

@@ -7,7 +7,9 @@ use groups::renaming::{NAMES, Renaming};
 use groups::tick::Tick;
 use std::fmt;
 
-/// A move that lines tell of. The moves are another crate's types, so this one cannot give them `FromStr` and `Display`.
+/// A move that lines tell of.
+// `FromStr` and `Display` are no plainer: the words are this program's, so both would be of a type around the move, which each
+// generic function would have to name beside the move.
 pub trait Wording: Copy {
     /// What the lines speak of.
     const SUBJECT: &'static str;

@@ -27,7 +27,7 @@ fn entry_of(byte: u8, given: &[u8]) -> Entry
 }
 
 // The whole command at the front, and the bytes after it. The end byte is no command.
-// A walk over bytes is little else, and takes a fifth longer where this is a call.
+// Inlined, since a walk over bytes does little else: with a call for each entry it was measured to take a fifth longer.
 #[tactic(auto, unfolding(crate::specs::Packed::packed))]
 #[inline(always)]
 pub(crate) fn first_command<'a>(bytes: &'a [u8]) -> Option<(Entry, &'a [u8])>

@@ -78,7 +78,7 @@ impl fmt::Display for Reason {
     }
 }
 
-/// Where a reason says all, the place is 0.
+/// A refusal that has no place: its place is 0.
 impl From<Reason> for Refusal {
     ghost from_gives = { λ r f. f ≡ record { reason = r; place = 0 } };
 

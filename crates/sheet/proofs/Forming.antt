@@ -1,6 +1,6 @@
 -- A lawful sheet is well formed: entry by entry.
 use Rattle.std.proofs.Common.{◌≡◌, ℕ, zero, suc, ◌+◌, ◌<◌, ◌≤◌, Bool, true, false, cond, not, ◌&&◌, ◌||◌, eqb, ltb, leb, ◌⊎◌, List, [], ◌∷◌, ◌++◌, length, take, Some, None, Option, sym, refl, ap, ◌∙◌, subst, inl, inr, add-one, arith}
-use Rattle.std.specs.List.{slice_get, count_by, list_all}
+use Rattle.std.specs.List.{slice_get, count_by, list_all, AllZip}
 use Rattle.std.specs.Option.{option_map}
 use Rattle.std.proofs.lemmas.List.{length_push, length-take, take_all}
 use Rattle.std.proofs.lemmas.List.Sums.{sum_by_push}
@@ -23,7 +23,7 @@ use Rattle.sheet.specs.Parts.{parts}
 use Rattle.sheet.specs.Sheets.{Sheet, blank, item, item_of, item_by, width_of, declare, declare_some, extend, sheet_of}
 use Rattle.sheet.specs.Faults.{some, is_name, holds, names_names, has, behind, crowded, present, well_sorted, padded, item_fault, fault_of, fault, arity_of, arity_of_some, row_arity, row_has, rows_have, fits_tuple, fits_binding}
 use Rattle.sheet.specs.Checks.{Faultless}
-use Rattle.sheet.specs.WellFormed.{Every, Each, WithinLimits, ArityFits, ConstructorFits, VariableFits, RowHas, RowFits, WellFormed, LawfulIsWellFormed}
+use Rattle.sheet.specs.WellFormed.{Every, WithinLimits, ArityFits, ConstructorFits, VariableFits, RowHas, RowFits, WellFormed, LawfulIsWellFormed}
 use Rattle.std.proofs.lemmas.Option.{slice_get_within, slice_get_cases, none-some}
 use Rattle.sheet.proofs.Growing.{data_only}
 use Rattle.sheet.proofs.Checking.{sheet_more}
@@ -118,7 +118,7 @@ module _ (S T : Sheet) (more : Extends S T) where
   has_kept : (r a q : ℕ) → RowHas S r a q → RowHas T r a q
   has_kept r a q h = (h.0, row_arity_at (slice_get S.rows q) q a refl h.1)
 
-  each_kept : (r : ℕ) (as' qs : List ℕ) → Each (RowHas S r) as' qs → Each (RowHas T r) as' qs
+  each_kept : (r : ℕ) (as' qs : List ℕ) → AllZip (RowHas S r) as' qs → AllZip (RowHas T r) as' qs
   each_kept r [] [] h = tt
   each_kept r [] (q ∷ qs) h = absurd h
   each_kept r (a ∷ as') [] h = absurd h
@@ -187,7 +187,7 @@ module _ (S : Sheet) where
   row_now a q p h = (ltb-true q (length S.rows) p, same_only (row_arity S q) a h)
 
   each_now : (as' qs : List ℕ) → length as' ≡ length qs → list_all (has S.rows) qs ≡ true → rows_have S as' qs ≡ true
-      → Each (RowHas S (length S.rows)) as' qs
+      → AllZip (RowHas S (length S.rows)) as' qs
   each_now [] [] e p h = tt
   each_now [] (q ∷ qs) e p h = absurd (omega arith)
   each_now (a ∷ as') [] e p h = absurd (omega arith)

@@ -4,7 +4,7 @@
 -- ArityFits S a x, ConstructorFits S x, VariableFits S a, RowFits S r x
 --                 what is named is there, of the right kind and arity; arities and rows name earlier ones only
 use Rattle.std.specs.Prelude.{◌≡◌, ℕ, ◌<◌, ◌≤◌, List, [], ◌∷◌, length, Some}
-use Rattle.std.specs.List.{slice_get, count_by}
+use Rattle.std.specs.List.{slice_get, count_by, AllZip}
 use Rattle.sheet.specs.declared.entry.Entry.{Entry}
 use Rattle.sheet.specs.declared.item.Parts.{Parts}
 use Rattle.sheet.specs.declared.item.Arity.{Arity}
@@ -22,13 +22,6 @@ use Rattle.sheet.specs.Checks.{Lawful}
 abbrev pub Every : (ℕ → Type 0) → List ℕ → Type 0
 Every P [] = Unit {0}
 Every P (x ∷ xs) = P x × Every P xs
-
--- P holds of the numbers of two lists, one by one, and the lists are equally long
-abbrev pub Each : (ℕ → ℕ → Type 0) → List ℕ → List ℕ → Type 0
-Each P [] [] = Unit {0}
-Each P [] (y ∷ ys) = ⊥
-Each P (x ∷ xs) [] = ⊥
-Each P (x ∷ xs) (y ∷ ys) = P x y × Each P xs ys
 
 pub record WithinLimits (S : Sheet) : Type 0 where
   pub arities : length S.arities ≤ most_arities
@@ -58,7 +51,7 @@ RowHas S r a q = (q < r) × (row_arity S q ≡ Some a)
 abbrev pub RowFits : Sheet → ℕ → Row → Type 0
 RowFits S r (variable_row v) = v < length S.variables
 RowFits S r (apply_row c q) = (x : Constructor) × (slice_get S.constructors c ≡ Some x) × RowHas S r x.takes q
-RowFits S r (tuple_row a qs) = (ps : Parts) × (slice_get S.arities a ≡ Some (Tuple ps)) × Each (RowHas S r) (parts ps) (parts qs)
+RowFits S r (tuple_row a qs) = (ps : Parts) × (slice_get S.arities a ≡ Some (Tuple ps)) × AllZip (RowHas S r) (parts ps) (parts qs)
 RowFits S r (bind_row a v q) =
     (n : ℕ) × (b : ℕ) × (slice_get S.arities a ≡ Some (Binding n b)) × (slice_get S.variables v ≡ Some n) × RowHas S r b q
 

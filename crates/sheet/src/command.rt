@@ -26,7 +26,7 @@ impl TryFrom<u8> for Command {
 
     ghost try_from_gives = { Names };
 
-    // Walks over bytes ask it at every command.
+    // Walks over bytes ask it at every command; a check was measured to take twice as long with a call there.
     #[inline]
     fn try_from(byte: u8) -> Result<Command, Reason> {
         match byte {

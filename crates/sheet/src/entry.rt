@@ -3,8 +3,8 @@ ghost use Rattle.std.specs.Prelude.{◌≡◌, [], ◌∷◌, slice_index};
 ghost use Rattle.sheet.specs.Operands.{operand_list, entry_of};
 
 /// A command byte and five operand bytes; operands that the command lacks are 0 in a lawful sheet.
-// The command is a byte, since a source may tell one that names no command. The operands have letters, since each command
-// reads its own by them; in an array, every fact about an entry would need that it has five.
+// The command is a byte, since a source may tell one that names no command. The operands have the letters of the format, by
+// which each command reads its own: an array is no plainer, since each would be a number then.
 #[derive(Clone, Copy, PartialEq, Eq, Debug)]
 pub struct Entry {
     pub command: u8,

@@ -4,7 +4,7 @@ ghost use Rattle.std.specs.Prelude.{◌≡◌, length};
 mod numbers;
 
 /// The parts of a tuple: the first `len` of four numbers, or all of them where it is crowded.
-// The length stands beside them since there is no heap, and since it may be above four, which the check refuses.
+// The length stands beside them since it may be above four, which the check refuses: no list of four could tell that.
 #[derive(Clone, Copy, PartialEq, Eq, Debug)]
 pub struct Parts {
     pub len: u8,

@@ -22,7 +22,8 @@ pub trait SheetSource {
         ensures { result ≡ slice_get (entries self.now) k };
 }
 
-/// The entries that a source has left to tell: to a clause, the list of them.
+/// An iterator over the entries of a source: to a clause, the list of those left.
+// By number, since a source answers by number: an iterator of each source's own would ask more of those who write one.
 #[derive(Drop)]
 pub struct Entries<'a, S: SheetSource> {
     source: &'a S,

@@ -29,6 +29,7 @@ fn bytes_of(heap: Global, text: &[u8]) -> Result<Vec<u8>, Fault>
     ensures { IfOk result (λ v. digits v.items ≡ text.now) }
 {
     let mut bytes = Vec::new(heap);
+    // Tried by `chunks`, which left a goal open.
     let mut rest = text;
     while let [high, low, after @ ..] = rest {
         bytes.push(byte(*high, *low).ok_or(Fault::Malformed)?)?;

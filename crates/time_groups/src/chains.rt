@@ -76,7 +76,7 @@ pub fn questions<M: Sample>(table: &mut [Link<M>; MEMBERS], facts: &[Fact<M>], c
     x
 }
 
-/// Opens the table and tells it the facts each time, until `count` facts are told; then asks a question.
+/// Opens the table, tells it the facts, which are 255, and asks a question, until `count` facts are told.
 pub fn rounds<M: Sample>(table: &mut [Link<M>; MEMBERS], facts: &[Fact<M>], count: u64) -> u64 {
     let mut x = SEED;
     for _ in 0..count / 255 {

@@ -43,5 +43,6 @@ pub fn random_facts<M: Sample>(heap: Global, count: u8) -> Result<Vec<Fact<M>>, 
 
 /// Each member told of the one below it, from the highest on.
 pub fn falling_facts<M: Sample>(heap: Global) -> Result<Vec<Fact<M>>, AllocError> {
+    // k is below 255, which a closure that may always be called does not know.
     facts(heap, 255, |k, _| (255 - k, 254u8.wrapping_sub(k)))
 }

@@ -23,7 +23,7 @@ pub fn root_link<G: Group>() -> Link<G>
 {
     Link {
         // No member is greater, so this says nothing.
-        parent: 255,
+        parent: u8::MAX,
         step: G::identity(),
     }
 }
@@ -52,7 +52,7 @@ fn link_of<G: Group>(table: &[Link<G>], i: u8) -> Option<Up<G>>
     if link.parent < i { link.up() } else { None }
 }
 
-// The way up from member i, as one link to its root. In a table that was opened it is one link at most, and the loop makes no turn.
+// The way up from member i, taken together: a link to its root. In a table that was opened the loop makes no turn.
 fn climb<G: Group>(table: &[Link<G>], i: u8) -> Up<G>
     ensures way { Way G.Group.own table.now i result.parent result.step }
     ensures root { Root G.Group.own table.now result.parent }
@@ -88,7 +88,7 @@ fn lift<G: Group>(entries: &mut [Link<G>], a: u8, up: &Up<G>)
 }
 
 // Hangs the root a by a smaller member, and by that also all that hung by a: so every way up stays one link long.
-// No part of `relate`, in which its loop was measured to take half as long again.
+// Never inlined: within `relate` its loop was measured to take half as long again.
 #[inline(never)]
 fn hang<G: Group>(table: &mut [Link<G>], a: u8, up: &Up<G>)
     requires room { members ≤ length table.old }
@@ -123,7 +123,7 @@ fn join<G: Group>(table: &mut [Link<G>], a: &Up<G>, b: &Up<G>, g: &Lawful<G>)
     }
 }
 
-// Says nothing of the members with these entries.
+// Says nothing of the members with these entries. `fill` asks that `clone` cannot fail, which is not known of a group.
 fn clear<G: Group>(entries: &mut [Link<G>])
     ensures { entries.new ≡ replicate (length entries.old) (root_entry G.Group.own) }
 {

@@ -37,6 +37,7 @@ impl<G: Group> Link<G> {
 }
 
 /// A link whose step is lawful.
+// No `Link<Lawful<G>>`: a `Link` is copied, and a type with a model is not.
 #[derive(Drop)]
 pub(crate) struct Up<G: Group> {
     pub(crate) parent: u8,
