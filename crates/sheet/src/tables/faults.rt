@@ -88,7 +88,8 @@ impl Tables {
             Item::Constructor(_) => self.constructors.len() >= CONSTRUCTORS,
             Item::Variable(a) => {
                 self.variables.len() >= VARIABLES
-                    || self.is_arity(usize::from(a), Arity::Name) && self.name_variables() >= NAME_VARIABLES
+                    || self.is_arity(usize::from(a), Arity::Name)
+                        && self.name_variables() >= NAME_VARIABLES
             }
             Item::Row(_) => self.rows.len() >= ROWS,
         }
@@ -165,7 +166,10 @@ impl Tables {
         ensures { result ≡ well_sorted (sheet_in self.now) item }
     {
         match item {
-            Item::Arity(Arity::Binding { names, .. }) => self.is_arity(usize::from(names), Arity::Name),
+            Item::Arity(Arity::Binding { names, .. }) => self.is_arity(
+                usize::from(names),
+                Arity::Name,
+            ),
             Item::Arity(_) => true,
             Item::Constructor(c) => self.is_arity(usize::from(c.makes), Arity::Data),
             Item::Variable(_) => true,
