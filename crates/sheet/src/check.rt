@@ -12,6 +12,5 @@ pub fn check<S: SheetSource>(source: &S) -> Result<(), Refusal>
     ensures one { OneAnswer }
     ensures formed { LawfulIsWellFormed }
 {
-    Tables::load(source)?;
-    Ok(())
+    Tables::load(source).map(|_| ())
 }

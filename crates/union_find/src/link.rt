@@ -14,7 +14,7 @@ pub struct Link<G> {
 }
 
 impl<G: Group> Link<G> {
-    // What it says, where the parent is a smaller member.
+    // What it says, if its step is lawful.
     pub(crate) fn up(self) -> Option<Up<G>>
         ensures { MatchOption result (G.lawful self.step → ⊥) (λ u. (u.parent ≡ self.parent) × (u.step ≡ self.step) × G.lawful self.step) }
     {

@@ -2,12 +2,6 @@ use Rattle.sheet.proofs.Checking.{one_answer}
 use Rattle.sheet.proofs.Forming.{lawful_well}
 use Rattle.sheet.proofs.check.check.Goals as goal
 
-pub returns-in_err-load-clause-one : goal.returns-in_err-load-clause-one
-returns-in_err-load-clause-one g c = one_answer
-
-pub returns-in_err-load-clause-formed : goal.returns-in_err-load-clause-formed
-returns-in_err-load-clause-formed g c = lawful_well
-
 pub returns-clause-one : goal.returns-clause-one
 returns-clause-one g c = one_answer
 
