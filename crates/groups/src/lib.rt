@@ -1,14 +1,14 @@
 //! Groups: elements that are composed and undone, with the laws that a union-find rests on.
 #![tactic(auto)]
 
-ghost use Rattle.std.specs.Prelude.{◌≡◌, MatchBool, ◌≢◌, true};
+ghost use Rattle.std.specs.Prelude.{◌≡◌, MatchBool, ◌≢◌};
 ghost use Rattle.groups.specs.Laws.{Laws};
 
 pub mod renaming;
 pub mod tick;
 
 /// A group. Its laws hold of its lawful elements; what the calls answer for others is free.
-pub trait Group: Copy + Eq {
+pub trait Group: Copy {
     ghost lawful: { Self → Type 0 };
 
     ghost identity: { Self };
@@ -33,15 +33,9 @@ pub trait Group: Copy + Eq {
     fn inverse(self) -> Self
         ensures { lawful self → result ≡ inverse self };
 
-    /// Whether two elements are one.
+    /// Whether two elements are one. No body by `==` stands here: it would ask `Eq`, and a law of it, of every group.
     fn equals(self, other: Self) -> bool
-        ensures { MatchBool result (self ≡ other) (self ≢ other) }
-    {
-        self == other
-    }
+        ensures { MatchBool result (self ≡ other) (self ≢ other) };
 
     ghost group: { Laws lawful identity compose inverse };
-
-    // Equal is the same.
-    ghost same: { (a b : Self) → Self.eq a b ≡ true → a ≡ b };
 }

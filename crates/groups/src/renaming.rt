@@ -1,6 +1,5 @@
 //! Renamings of names, packed into a number.
 ghost use Rattle.std.specs.Prelude.{◌≡◌, Ok};
-ghost use Rattle.std.proofs.Common.{rules};
 ghost use Rattle.groups.specs.Renamings.{image as image_of, LawfulRenaming, identity_renaming, compose_renamings, inverse_renaming, exchange as exchanged};
 ghost use Rattle.groups.specs.RenamingsLemmas.{renaming_laws};
 
@@ -56,8 +55,6 @@ impl Group for Renaming {
 
     ghost group = { renaming_laws };
 
-    ghost same = { Prim.search rules };
-
     // Whether every name is an image and the higher bits are 0. No name is then the image of two,
     // since there are no more images than names.
     fn is_lawful(self) -> bool {
@@ -93,6 +90,10 @@ impl Group for Renaming {
             bits |= u64::from(i) << (4 * self.image(i));
         }
         Renaming { bits }
+    }
+
+    fn equals(self, other: Renaming) -> bool {
+        self == other
     }
 }
 

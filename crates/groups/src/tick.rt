@@ -1,6 +1,5 @@
 //! Ticks: delays on a clock of 32 bits, which starts again after its last tick.
 ghost use Rattle.std.specs.Prelude.{◌≡◌, ◌<◌, ◌^◌, OkIff};
-ghost use Rattle.std.proofs.Common.{rules};
 ghost use Rattle.groups.specs.Ticks.{LawfulTick, no_ticks, add_ticks, minus_ticks, tick_laws};
 
 use crate::Group;
@@ -23,8 +22,6 @@ impl Group for Tick {
 
     ghost group = { tick_laws };
 
-    ghost same = { Prim.search rules };
-
     // Every number of 32 bits is a tick.
     fn is_lawful(self) -> bool {
         true
@@ -44,6 +41,10 @@ impl Group for Tick {
         Tick {
             count: self.count.wrapping_neg(),
         }
+    }
+
+    fn equals(self, other: Tick) -> bool {
+        self == other
     }
 }
 

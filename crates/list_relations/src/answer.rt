@@ -23,8 +23,8 @@ pub enum Answer<M> {
 
 /// Answers a line, and learns what it says.
 pub fn answer_to<M: Group>(table: &mut [Link<M>], line: Line<M>) -> Answer<M>
-    ensures facts { (fs : List (Fact M)) → Keeps M.Group.own fs table.old → Replies M.Group.own fs (length table.old) line.i line.j line.remark result (λ fs'. Keeps M.Group.own fs' table.new) }
-    ensures table { Handles M.Group.own table.old table.new line.i line.j line.remark result }
+    ensures facts { (fs : List (Fact M)) → Keeps M.Group fs table.old → Replies M.Group fs (length table.old) line.i line.j line.remark result (λ fs'. Keeps M.Group fs' table.new) }
+    ensures table { Handles M.Group table.old table.new line.i line.j line.remark result }
 {
     let Line { i, j, remark } = line;
     match remark {

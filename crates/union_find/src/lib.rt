@@ -19,7 +19,7 @@ pub const MEMBERS: usize = 256;
 
 /// The entry of a member of which nothing is said: a table to be opened may be made of it.
 pub fn root_link<G: Group>() -> Link<G>
-    ensures { result ≡ root_entry G.Group.own }
+    ensures { result ≡ root_entry G.Group }
 {
     Link {
         // No member is greater, so this says nothing.
@@ -46,7 +46,7 @@ fn pair(n: usize, i: usize, j: usize) -> Result<(u8, u8), Reason>
 
 // What the table says of member i, if it says something.
 fn link_of<G: Group>(table: &[Link<G>], i: u8) -> Option<Up<G>>
-    ensures { MatchOption result (Root G.Group.own table.now i) (λ u. Linked G.Group.own table.now i u.parent u.step) }
+    ensures { MatchOption result (Root G.Group table.now i) (λ u. Linked G.Group table.now i u.parent u.step) }
 {
     let link = *table.get(usize::from(i))?;
     if link.parent < i { link.up() } else { None }
@@ -54,8 +54,8 @@ fn link_of<G: Group>(table: &[Link<G>], i: u8) -> Option<Up<G>>
 
 // The way up from member i, taken together: a link to its root. In a table that was opened the loop makes no turn.
 fn climb<G: Group>(table: &[Link<G>], i: u8) -> Up<G>
-    ensures way { Way G.Group.own table.now i result.parent result.step }
-    ensures root { Root G.Group.own table.now result.parent }
+    ensures way { Way G.Group table.now i result.parent result.step }
+    ensures root { Root G.Group table.now result.parent }
 {
     let Some(mut way) = link_of(table, i) else {
         return Up {
@@ -78,7 +78,7 @@ fn between<G: Group>(a: &Up<G>, b: &Up<G>) -> G
 
 // What hangs by a, of the entries after a's own, goes up one link more.
 fn lift<G: Group>(entries: &mut [Link<G>], a: u8, up: &Up<G>)
-    ensures { EachLifted G.Group.own entries.old entries.new a up.now.parent up.now.step }
+    ensures { EachLifted G.Group entries.old entries.new a up.now.parent up.now.step }
 {
     for link in entries.iter_mut() {
         if let Some(lifted) = link.lifted(a, up) {
@@ -93,7 +93,7 @@ fn lift<G: Group>(entries: &mut [Link<G>], a: u8, up: &Up<G>)
 fn hang<G: Group>(table: &mut [Link<G>], a: u8, up: &Up<G>)
     requires room { members ≤ length table.old }
     requires lower { up.now.parent < a }
-    ensures { Hung G.Group.own table.old table.new a up.now.parent up.now.step }
+    ensures { Hung G.Group table.old table.new a up.now.parent up.now.step }
 {
     lift(&mut table[usize::from(a) + 1..MEMBERS], a, up);
     table[usize::from(a)] = up.link();
@@ -101,7 +101,7 @@ fn hang<G: Group>(table: &mut [Link<G>], a: u8, up: &Up<G>)
 
 // The move that makes the root a of the root b, where what hangs by a is what hangs by b moved by g.
 fn across<G: Group>(a: &Up<G>, b: &Up<G>, g: &Lawful<G>) -> Lawful<G>
-    ensures { result ≡ across_of G.Group.own a.now.step g.now b.now.step }
+    ensures { result ≡ across_of G.Group a.now.step g.now b.now.step }
 {
     a.step.inverse().compose(&g.compose(&b.step))
 }
@@ -110,8 +110,8 @@ fn across<G: Group>(a: &Up<G>, b: &Up<G>, g: &Lawful<G>) -> Lawful<G>
 fn join<G: Group>(table: &mut [Link<G>], a: &Up<G>, b: &Up<G>, g: &Lawful<G>)
     requires room { members ≤ length table.old }
     requires apart { a.now.parent ≢ b.now.parent }
-    ensures left { b.now.parent < a.now.parent → Hung G.Group.own table.old table.new a.now.parent b.now.parent (across_of G.Group.own a.now.step g.now b.now.step) }
-    ensures right { a.now.parent < b.now.parent → Hung G.Group.own table.old table.new b.now.parent a.now.parent (G.inverse (across_of G.Group.own a.now.step g.now b.now.step)) }
+    ensures left { b.now.parent < a.now.parent → Hung G.Group table.old table.new a.now.parent b.now.parent (across_of G.Group a.now.step g.now b.now.step) }
+    ensures right { a.now.parent < b.now.parent → Hung G.Group table.old table.new b.now.parent a.now.parent (G.inverse (across_of G.Group a.now.step g.now b.now.step)) }
 {
     let step = across(a, b, g);
     if b.parent < a.parent {
@@ -125,7 +125,7 @@ fn join<G: Group>(table: &mut [Link<G>], a: &Up<G>, b: &Up<G>, g: &Lawful<G>)
 
 // Says nothing of the members with these entries. `fill` asks that `clone` cannot fail, which is not known of a group.
 fn clear<G: Group>(entries: &mut [Link<G>])
-    ensures { entries.new ≡ replicate (length entries.old) (root_entry G.Group.own) }
+    ensures { entries.new ≡ replicate (length entries.old) (root_entry G.Group) }
 {
     for link in entries.iter_mut() {
         *link = root_link();
@@ -134,8 +134,8 @@ fn clear<G: Group>(entries: &mut [Link<G>])
 
 /// Opens the table: it has no facts then. Entries past the members are left.
 pub fn open<G: Group>(table: &mut [Link<G>]) -> Result<(), Refusal>
-    ensures facts { OnOk result (Keeps G.Group.own [] table.new) }
-    ensures table { Opened G.Group.own table.old table.new result }
+    ensures facts { OnOk result (Keeps G.Group [] table.new) }
+    ensures table { Opened G.Group table.old table.new result }
 {
     if table.len() < MEMBERS {
         return Err(Reason::Short.into());
@@ -146,9 +146,9 @@ pub fn open<G: Group>(table: &mut [Link<G>]) -> Result<(), Refusal>
 
 /// The composite of the moves along a chain of facts from i to j, or nothing where there is no chain.
 pub fn relation<G: Group>(table: &[Link<G>], i: usize, j: usize) -> Result<Option<G>, Refusal>
-    ensures facts { (fs : List (Fact G)) → Keeps G.Group.own fs table.now → Tells (Chain G.Group.own (Among fs) i j) (length table.now) i j result }
-    ensures table { Tells (Chain G.Group.own (Linked G.Group.own table.now) i j) (length table.now) i j result }
-    ensures one { OneTelling (Chain G.Group.own (Linked G.Group.own table.now) i j) (length table.now) i j }
+    ensures facts { (fs : List (Fact G)) → Keeps G.Group fs table.now → Tells (Chain G.Group (Among fs) i j) (length table.now) i j result }
+    ensures table { Tells (Chain G.Group (Linked G.Group table.now) i j) (length table.now) i j result }
+    ensures one { OneTelling (Chain G.Group (Linked G.Group table.now) i j) (length table.now) i j }
 {
     let (i, j) = pair(table.len(), i, j)?;
     let a = climb(table, i);
@@ -167,9 +167,9 @@ pub fn relate<G: Group>(
     j: usize,
     g: G,
 ) -> Result<Related<G>, Refusal>
-    ensures facts { (fs : List (Fact G)) → Keeps G.Group.own fs table.old → Answers G.Group.own (Chain G.Group.own (Among fs) i j) (length table.old) i j g result × Keeps G.Group.own (facts_after fs i j g result) table.new }
-    ensures table { Answers G.Group.own (Chain G.Group.own (Linked G.Group.own table.old) i j) (length table.old) i j g result × After G.Group.own table.old table.new i j g result }
-    ensures one { OneAnswer G.Group.own (Chain G.Group.own (Linked G.Group.own table.old) i j) (length table.old) i j g }
+    ensures facts { (fs : List (Fact G)) → Keeps G.Group fs table.old → Answers G.Group (Chain G.Group (Among fs) i j) (length table.old) i j g result × Keeps G.Group (facts_after fs i j g result) table.new }
+    ensures table { Answers G.Group (Chain G.Group (Linked G.Group table.old) i j) (length table.old) i j g result × After G.Group table.old table.new i j g result }
+    ensures one { OneAnswer G.Group (Chain G.Group (Linked G.Group table.old) i j) (length table.old) i j g }
 {
     let (i, j) = pair(table.len(), i, j)?;
     let said = Lawful::of(g).ok_or(Reason::Unlawful)?;

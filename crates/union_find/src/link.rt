@@ -27,7 +27,7 @@ impl<G: Group> Link<G> {
 
     // This entry one link further up, if it hangs by a.
     pub(crate) fn lifted(self, a: u8, up: &Up<G>) -> Option<Link<G>>
-        ensures { MatchOption result (Hangs G.Group.own a self → ⊥) (λ l. Hangs G.Group.own a self × (l ≡ record { parent = up.now.parent; step = G.compose self.step up.now.step })) }
+        ensures { MatchOption result (Hangs G.Group a self → ⊥) (λ l. Hangs G.Group a self × (l ≡ record { parent = up.now.parent; step = G.compose self.step up.now.step })) }
     {
         if self.parent != a {
             return None;
