@@ -7,26 +7,26 @@ ghost use Rattle.refusals.specs.Words.{word};
 
 use std::fmt;
 
-/// The reasons, with their numbers.
+/// The reasons, in the order of their numbers.
 #[derive(Clone, Copy, PartialEq, Eq, Debug)]
 pub enum Reason {
-    Cut = 1,
-    Unknown = 2,
-    Tail = 3,
-    Order = 4,
-    Crowded = 5,
-    Absent = 6,
-    IllSorted = 7,
-    Padding = 8,
-    Barren = 9,
-    Full = 10,
-    NoRow = 11,
-    Unfit = 12,
-    Deep = 13,
-    Crossed = 14,
-    Short = 15,
-    Stranger = 16,
-    Unlawful = 17,
+    Cut,
+    Unknown,
+    Tail,
+    Order,
+    Crowded,
+    Absent,
+    IllSorted,
+    Padding,
+    Barren,
+    Full,
+    NoRow,
+    Unfit,
+    Deep,
+    Crossed,
+    Short,
+    Stranger,
+    Unlawful,
 }
 
 /// A reason with its place: a byte offset, an entry's position, an arity or a line, as the reason says.
@@ -41,7 +41,7 @@ impl Reason {
     pub fn number(self) -> u8
         ensures { result ≡ number self }
     {
-        self as u8
+        self as u8 + 1
     }
 
     /// The word that programs print.
