@@ -1,8 +1,9 @@
 -- Which arities have a tree, from those that are known to.
-use Rattle.std.proofs.Common.{◌≡◌, ℕ, zero, suc, ◌+◌, ◌<◌, ◌≤◌, Bool, true, false, not, ◌&&◌, eqb, List, [], ◌∷◌, length, get_or, set, Some, None, Option, sym, refl, ap, ◌∙◌, subst, inl, inr, arith, lit<}
-use Rattle.std.specs.List.{slice_get, list_all}
-use Rattle.std.proofs.lemmas.List.{get_or-set_other}
-use Rattle.std.proofs.lemmas.Bool.{both_ways, not-true, not-false, and_parts, and_from, eqb-true, eq-eqb, false≢true, cases_eq}
+use Rattle.std.proofs.Common.{◌≡◌, ℕ, zero, suc, ◌+◌, ◌<◌, ◌≤◌, ◌-◌, Bool, true, false, not, ◌&&◌, eqb, List, [], ◌∷◌, ◌++◌, length, get_or, set, Some, None, Option, sym, refl, ap, ◌∙◌, subst, inl, inr, arith, lit<}
+use Rattle.std.specs.List.{slice_get, list_all, range_with_len, AllWithin, HoldsAt}
+use Rattle.std.proofs.lemmas.List.{get_or-set_other, get_or_append_left, get_or-append_right, length-append}
+use Rattle.std.proofs.lemmas.List.FromFn.{length-range_with_len, get_or-range_with_len}
+use Rattle.std.proofs.lemmas.Bool.{both_ways, not-true, not-false, and_parts, and_from, eqb-true, eq-eqb, false≢true, cases_eq, cases_lt}
 use Rattle.trees.specs.Trees.{Tree, name, tick, con, unit, pair, bind}
 use Rattle.sheet.specs.declared.tables.marks.Marks.{Marks}
 use Rattle.sheet.specs.declared.item.Arity.{Arity}
@@ -125,15 +126,56 @@ none_missing : (b g : Bool) → (not b && g) ≡ false → g ≡ true → b ≡ 
 none_missing true g none grow = refl
 none_missing false g none grow = absurd (false≢true (sym none ∙ grow))
 
--- what a search through all arities finds
-pub missing_of : (S : Sheet) (m : Marks) (r : Option ℕ)
-    → MatchOption r ((a : ℕ) → 0 ≤ a → a < 64 → (not (marked m a) && grows S m a) ≡ false)
-    (λ b. (0 ≤ b) × (b < 64) × ((not (marked m b) && grows S m b) ≡ true) × ((a : ℕ) → 0 ≤ a → a < b → (not (marked m a) && grows S m a) ≡ false))
+-- the numbers that a search from `from` on and then from 0 on goes over: all below 64
+module _ (from : ℕ) (fits : from ≤ 64) where
+  abbrev pub round : List ℕ
+  round = range_with_len from (64 - from) ++ range_with_len 0 from
+
+  length_round : length round ≡ 64
+  length_round =
+      let e = length-append (range_with_len from (64 - from)) (range_with_len 0 from) in
+      let f = length-range_with_len from (64 - from) in
+      let g = length-range_with_len 0 from in
+      omega arith
+
+  in_first : (i d : ℕ) → i < 64 - from → get_or round i d ≡ from + i
+  in_first i d here =
+      get_or_append_left (range_with_len from (64 - from)) (range_with_len 0 from) d i (let l = length-range_with_len from (64 - from) in omega arith)
+      ∙ get_or-range_with_len from (64 - from) i d here
+
+  in_second : (i d : ℕ) → 64 - from ≤ i → i < 64 → get_or round i d ≡ i - (64 - from)
+  in_second i d past below =
+      let e = get_or-append_right (range_with_len from (64 - from)) (range_with_len 0 from) (64 - from) i d (length-range_with_len from (64 - from)) past in
+      let f = get_or-range_with_len 0 from (i - (64 - from)) d (omega arith) in
+      omega arith
+
+  below_round : (i d : ℕ) → i < 64 → get_or round i d < 64
+  below_round i d below =
+      elim (cases_lt i (64 - from)) [
+        | inl here ↦ let e = in_first i d here in omega arith
+        | inr past ↦ let e = in_second i d past below in omega arith
+      ]
+
+  -- where in the round a number stands
+  in_round : (P : ℕ → Type 0) → AllWithin P round 0 64 → (a : ℕ) → a < 64 → P a
+  in_round P all a below =
+      elim (cases_lt a from) [
+        | inl low ↦ subst P (let e = in_second ((64 - from) + a) 0 (omega arith) (omega arith) in omega arith) (all ((64 - from) + a) 0 (omega arith) (omega arith))
+        | inr high ↦ subst P (let e = in_first (a - from) 0 (omega arith) in omega arith) (all (a - from) 0 (omega arith) (omega arith))
+      ]
+
+-- what such a search finds
+pub missing_of : (S : Sheet) (m : Marks) (from : ℕ) (fits : from ≤ 64) (r : Option ℕ)
+    → MatchOption r (AllWithin (λ a. (not (marked m a) && grows S m a) ≡ false) (round from fits) 0 (length (round from fits)))
+    (λ b. ((not (marked m b) && grows S m b) ≡ true) × (i : ℕ) × (i < length (round from fits)) × HoldsAt (λ a. a ≡ b) (round from fits) i × AllWithin (λ a. (not (marked m a) && grows S m a) ≡ false) (round from fits) 0 i)
     → Missing S m r
-missing_of S m None found = λ a below. none_missing (marked m a) (grows S m a) (found a (omega arith) below)
-missing_of S m (Some b) found =
-    let h = and_parts (not (marked m b)) (grows S m b) found.2 in
-    (found.1, not-true (marked m b) h.0, h.1)
+missing_of S m from fits None found =
+    let all = subst (AllWithin (λ a. (not (marked m a) && grows S m a) ≡ false) (round from fits) 0) (length_round from fits) found in
+    λ a below. none_missing (marked m a) (grows S m a) (in_round from fits (λ a. (not (marked m a) && grows S m a) ≡ false) all a below)
+missing_of S m from fits (Some b) (tested, i, within, at, _) =
+    let h = and_parts (not (marked m b)) (grows S m b) tested in
+    let n = length_round from fits in
+    (let e = at 0 in let lt = below_round from fits i 0 (omega arith) in omega arith, not-true (marked m b) h.0, h.1)
 
 pub data_only : (o : Option Arity) → holds is_data o ≡ true → o ≡ Some Data
 data_only None h = absurd (false≢true h)

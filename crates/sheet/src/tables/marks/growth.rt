@@ -1,5 +1,5 @@
 //! Which arities have a tree.
-ghost use Rattle.std.specs.Prelude.{◌≡◌, ℕ, ◌<◌, true, false, slice_set};
+ghost use Rattle.std.specs.Prelude.{◌≡◌, ℕ, ◌<◌, ◌≤◌, true, false, slice_set};
 ghost use Rattle.sheet.specs.Limits.{most_arities};
 ghost use Rattle.sheet.specs.Parts.{parts};
 ghost use Rattle.sheet.specs.Growth.{marked, serves, grows, makes_one, all_marked, Sound, Closed, Missing};
@@ -73,21 +73,27 @@ impl Tables {
         }
     }
 
-    // The lowest arity that has a tree by those of the set, and is not in it.
-    fn missing(&self, marks: &Marks) -> Option<usize>
+    // An arity that has a tree by those of the set, and is not in it: the first from `from` on, or else the lowest.
+    fn missing(&self, marks: &Marks, from: usize) -> Option<usize>
+        requires { from ≤ most_arities }
         ensures { Missing (sheet_in self.now) marks.now result }
     {
-        (0..ARITIES).find(|a| !marks.has(*a) && self.grows(marks, *a))
+        (from..ARITIES)
+            .chain(0..from)
+            .find(|a| !marks.has(*a) && self.grows(marks, *a))
     }
 
-    // The arities that have a tree.
+    // The arities that have a tree. Each search goes on where the one before ended: begun at the lowest, each would ask again for
+    // all those that have no tree yet.
     fn inhabited(&self) -> Marks
         ensures sound { Sound (sheet_in self.now) result }
         ensures closed { Closed (sheet_in self.now) result }
     {
         let mut marks = Marks::none();
-        while let Some(a) = self.missing(&marks) {
+        let mut from = 0;
+        while let Some(a) = self.missing(&marks, from) {
             marks.add(a);
+            from = a + 1;
         }
         marks
     }

@@ -1,3 +1,4 @@
+use Rattle.std.proofs.Common.{arith}
 use Rattle.sheet.specs.Tables.{sheet_in}
 use Rattle.sheet.proofs.Growing.{added_fewer, added_sound}
 use Rattle.sheet.proofs.tables.Tables.inhabited.Goals as goal
@@ -10,4 +11,4 @@ loop-a-smaller c =
 pub loop-a-preserved : goal.loop-a-preserved
 loop-a-preserved c =
     let (below, out, grow) = c.in-Some.ensures in
-    added_sound (sheet_in c.args.self.now) c.loop-a.marks c.add.new.self c.in-Some.a below out grow c.add.ensures c.loop-a.invariant
+    (added_sound (sheet_in c.args.self.now) c.loop-a.marks c.add.new.self c.in-Some.a below out grow c.add.ensures c.loop-a.invariant.0, omega arith)
