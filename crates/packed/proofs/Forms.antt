@@ -14,7 +14,7 @@ use Rattle.sheet.specs.Faults.{padded, fault_of, fault}
 use Rattle.sheet.specs.Checks.{Lawful}
 use Rattle.sheet.proofs.Forming.{clean}
 use Rattle.packed.specs.Packed.{operand_count, bytes_of, packed_form, packed, end_byte, FrontWhole}
-use Rattle.packed.specs.Forms.{extent, no_entry, after_end, ending, byte_fault_at, byte_fault, Accepted, OneForm, ReadIsForm, FormReadsBack}
+use Rattle.packed.specs.Forms.{extent, no_entry, after_end, ending, byte_fault_at, byte_fault, OneForm, ReadIsForm, FormReadsBack}
 use Rattle.packed.proofs.Packing.{front_longer, opens, width_most, whole_known, packed_whole}
 
 fault_whole : (n : ℕ) (bs : List ℕ) (e : Entry) (rest : List ℕ) → FrontWhole bs e rest → byte_fault_at n bs ≡ byte_fault_at (n + length (bytes_of e)) rest
@@ -42,6 +42,10 @@ fault_stop n bs none =
     let nil : extent bs ≡ 0 = ap (λ es. length (flat_map bytes_of es)) none in
     let sum : n + extent bs ≡ n = omega arith in
     ap (λ m. ending m (drop (extent bs) bs)) sum ∙ ap (λ m. ending n (drop m bs)) nil
+
+-- the end byte is no command
+no_end : (b : ℕ) (c : Command) → command b ≡ Some c → b ≡ end_byte → ⊥
+no_end b c known is = let none : command b ≡ None = ap command is in cc
 
 after_none : (n : ℕ) (bs : List ℕ) → after_end n bs ≡ None → bs ≡ []
 after_none n [] is = refl
@@ -145,8 +149,19 @@ form_reads_back es lawful =
     let back = packed_back es (λ j e is. faultless_spelt (sheet_of (take j es)) e (lawful.faultless j e is)) in
     ((form_faultless es back, subst Lawful (sym back) lawful), back)
 
+-- what the packed form of a lawful sheet is, fact by fact
+module _ (es : List Entry) (lawful : Lawful es) (bs : List ℕ) (is : bs ≡ packed_form es) where
+  pub form_whole : byte_fault bs ≡ None
+  form_whole = ap byte_fault is ∙ (form_reads_back es lawful).0.0
+
+  pub form_lawful : Lawful (packed bs)
+  form_lawful = subst (λ xs. Lawful (packed xs)) (sym is) (form_reads_back es lawful).0.1
+
+  pub form_meant : packed bs ≡ es
+  form_meant = ap packed is ∙ (form_reads_back es lawful).1
+
 pub one_form : OneForm
 one_form es lawful bs = (
   λ read. read_is_form bs read.0 ∙ ap packed_form read.1,
-  λ is. subst (λ xs. Accepted xs × (packed xs ≡ es)) (sym is) (form_reads_back es lawful),
+  λ is. ((form_whole es lawful bs is, form_lawful es lawful bs is), form_meant es lawful bs is),
 )

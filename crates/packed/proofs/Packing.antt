@@ -1,5 +1,5 @@
 -- Packed bytes, one command at a time.
-use Rattle.std.proofs.Common.{◌≡◌, ℕ, zero, suc, ◌+◌, ◌≤◌, List, [], ◌∷◌, ◌++◌, length, take, drop, Some, None, Option, sym, refl, ap, ◌∙◌, arith, lit≤, length-append, take-append-drop, length-take}
+use Rattle.std.proofs.Common.{◌≡◌, ℕ, zero, suc, ◌+◌, ◌≤◌, List, [], ◌∷◌, ◌++◌, ◌⊎◌, inl, inr, length, take, drop, Some, None, Option, sym, refl, ap, ◌∙◌, arith, lit≤, length-append, take-append-drop, length-take}
 use Rattle.std.proofs.lemmas.List.{append_assoc, length-take-le}
 use Rattle.std.proofs.lemmas.Bool.{le-leb, cond-true}
 use Rattle.std.proofs.lemmas.Bool.Decides.{nat_tests}
@@ -11,22 +11,23 @@ use Rattle.sheet.specs.Commands.{command, operands}
 use Rattle.sheet.specs.Operands.{operand_list, entry_of}
 use Rattle.packed.specs.Packed.{operand_count, bytes_of, whole, command_then, packed_past, packed, FrontWhole}
 
-most : (c : Command) → operands c ≤ 5
-most NameArity = lit≤ tt
-most DataArity = lit≤ tt
-most TickArity = lit≤ tt
-most TupleArity = lit≤ tt
-most BindingArity = lit≤ tt
-most Constructor = lit≤ tt
-most Variable = lit≤ tt
-most VariableRow = lit≤ tt
-most ApplyRow = lit≤ tt
-most TupleRow = lit≤ tt
-most BindRow = lit≤ tt
+-- a command has three operands at most, or five
+pub widths : (c : Command) → (operands c ≤ 3) ⊎ (operands c ≡ 5)
+widths NameArity = inl (lit≤ tt)
+widths DataArity = inl (lit≤ tt)
+widths TickArity = inl (lit≤ tt)
+widths TupleArity = inr refl
+widths BindingArity = inl (lit≤ tt)
+widths Constructor = inl (lit≤ tt)
+widths Variable = inl (lit≤ tt)
+widths VariableRow = inl (lit≤ tt)
+widths ApplyRow = inl (lit≤ tt)
+widths TupleRow = inr refl
+widths BindRow = inl (lit≤ tt)
 
 pub width_most : (o : Option Command) → operand_count o ≤ 5
 width_most None = omega arith
-width_most (Some c) = most c
+width_most (Some c) = omega (arith, widths c)
 
 -- what `whole` answers
 whole_says : (n m : ℕ) (o : Option Command) → whole n o ≡ Some m → (operand_count o ≡ m) × (m ≤ n)

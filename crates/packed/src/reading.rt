@@ -34,6 +34,7 @@ fn byte_fault(bytes: &[u8]) -> Result<(), Refusal>
 }
 
 /// Tests the bytes, then the sheet that they mean, and answers its number of entries.
+#[tactic(auto, using(crate::proofs::Forms::read_is_form, crate::proofs::Forms::form_whole, crate::proofs::Forms::form_lawful, crate::proofs::Forms::form_meant))]
 pub fn read(bytes: &[u8]) -> Result<usize, Refusal>
     ensures answer { Read bytes.now result }
     ensures form { ReadIsForm }
