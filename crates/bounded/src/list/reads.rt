@@ -21,6 +21,7 @@ impl<T: Copy, const N: usize> Bounded<T, N> {
     }
 
     /// Element `k`; nothing past the end.
+    #[tactic(auto, using(crate::proofs::Fronts::fronts))]
     pub fn get(&self, k: usize) -> Option<T>
         ensures { result ≡ slice_get (items self.now) k }
     {
