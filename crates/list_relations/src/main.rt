@@ -20,22 +20,31 @@ use union_find::link::Link;
 use union_find::{MEMBERS, open, root_link};
 use wording::Wording;
 
-// What was learned of what the lines speak of.
-#[derive(Drop)]
-enum Book {
-    Delays([Link<Tick>; MEMBERS]),
-    Zones([Link<Renaming>; MEMBERS]),
+#[derive(Clone, Copy)]
+enum Subject {
+    Delays,
+    Zones,
 }
 
-// The book that a heading starts.
-fn started(text: &str) -> Option<Book> {
+// What was learned, and what the lines speak of at present.
+// Both tables are here all the time, and a heading opens its own in place: with an enum of the table in force each line was
+// measured to take up to half as long again, and a heading twice as long, since tables were made and moved.
+#[derive(Drop)]
+struct Book {
+    subject: Option<Subject>,
+    delays: [Link<Tick>; MEMBERS],
+    zones: [Link<Renaming>; MEMBERS],
+}
+
+fn heading(text: &str) -> Option<Subject> {
     match text.trim() {
-        "delays" => Some(Book::Delays([root_link(); MEMBERS])),
-        "zones" => Some(Book::Zones([root_link(); MEMBERS])),
+        "delays" => Some(Subject::Delays),
+        "zones" => Some(Subject::Zones),
         _ => None,
     }
 }
 
+// Starts afresh.
 fn print_opening<M: Group + Wording>(
     rt: &impl Print,
     number: u64,
@@ -64,28 +73,27 @@ fn print_reply<M: Group + Wording>(
     println!(rt; "line {number}: {}", Reply { i, j, answer })
 }
 
-// Answers a line; a heading starts the book afresh.
-fn print_answer(
-    rt: &impl Print,
-    number: u64,
-    book: &mut Option<Book>,
-    text: &str,
-) -> io::Result<()> {
-    if let Some(opened) = started(text) {
-        return match book.insert(opened) {
-            Book::Delays(table) => print_opening(rt, number, table),
-            Book::Zones(table) => print_opening(rt, number, table),
+fn print_answer(rt: &impl Print, number: u64, book: &mut Book, text: &str) -> io::Result<()> {
+    if let Some(subject) = heading(text) {
+        book.subject = Some(subject);
+        return match subject {
+            Subject::Delays => print_opening(rt, number, &mut book.delays),
+            Subject::Zones => print_opening(rt, number, &mut book.zones),
         };
     }
-    match book {
-        Some(Book::Delays(table)) => print_reply(rt, number, table, text),
-        Some(Book::Zones(table)) => print_reply(rt, number, table, text),
+    match book.subject {
+        Some(Subject::Delays) => print_reply(rt, number, &mut book.delays, text),
+        Some(Subject::Zones) => print_reply(rt, number, &mut book.zones, text),
         None => print_unreadable(rt, number),
     }
 }
 
 fn main(rt: HostRuntime) -> io::Result<()> {
-    let mut book = None;
+    let mut book = Book {
+        subject: None,
+        delays: [root_link(); MEMBERS],
+        zones: [root_link(); MEMBERS],
+    };
     let lines = BufReader::new(rt.alloc(), rt.stdin())?.lines(rt.alloc());
     for (number, line) in (1u64..).zip(lines) {
         print_answer(&rt, number, &mut book, line?.as_str())?;

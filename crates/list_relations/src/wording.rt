@@ -82,7 +82,9 @@ impl Wording for Renaming {
 
     const MEMBER: &'static str = "kiln";
 
-    fn read(word: &str) -> Option<Renaming> {
+    fn read(word: &str) -> Option<Renaming>
+        ensures { SomeIff result (IsSpelling word.now) (spelled word.now) }
+    {
         renaming_of(word.as_bytes())
     }
 
