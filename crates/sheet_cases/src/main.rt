@@ -11,13 +11,24 @@ use answer::Answer;
 use case::{Case, Form};
 use faults::Fault;
 use packed::source::Packed;
+use sheet::entry::Entry;
 use sheet::source::Records;
-use std::alloc::Global;
+use std::alloc::{AllocError, Global};
 use std::io;
 use std::io::{BufRead, BufReader};
 
 // No packed form of a lawful sheet is longer.
 const ROOM: usize = 4096;
+
+// The answer line of a sheet in records. Never inlined, since a line of another form would clear the buffer too.
+#[inline(never)]
+fn outcome_of_records(heap: Global, label: &str, table: &[Entry]) -> Result<String, AllocError> {
+    let records = Records { table };
+    let check = Answer::of_check(&records);
+    let mut buffer = [0; ROOM];
+    let write = Answer::of_writing(&records, &mut buffer);
+    format!(in heap; "{label} check {check} write {write}")
+}
 
 // The answer line of a case.
 fn outcome(heap: Global, line: &str) -> Result<String, Fault> {
@@ -29,15 +40,7 @@ fn outcome(heap: Global, line: &str) -> Result<String, Fault> {
             let check = Answer::of_check(&Packed { bytes });
             format!(in heap; "{label} read {read} check {check}")?
         }
-        Form::Records(entries) => {
-            let records = Records {
-                table: entries.as_slice(),
-            };
-            let check = Answer::of_check(&records);
-            let mut buffer = [0; ROOM];
-            let write = Answer::of_writing(&records, &mut buffer);
-            format!(in heap; "{label} check {check} write {write}")?
-        }
+        Form::Records(entries) => outcome_of_records(heap, label, entries.as_slice())?,
     };
     Ok(text)
 }
