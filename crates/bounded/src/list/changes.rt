@@ -21,11 +21,13 @@ impl<T: Copy, const N: usize> Bounded<T, N> {
             (λ _. (length (items self.old) < N) × (items self.new ≡ items self.old ++ x ∷ []))
             (λ y. (N ≤ length (items self.old)) × (y ≡ x) × (items self.new ≡ items self.old)) }
     {
-        if self.len == N {
-            return Err(x);
+        // This way round a caller that drops what comes back is spared its copy.
+        if self.len < N {
+            self.slots[self.len] = x;
+            self.len += 1;
+            Ok(())
+        } else {
+            Err(x)
         }
-        self.slots[self.len] = x;
-        self.len += 1;
-        Ok(())
     }
 }
