@@ -27,8 +27,8 @@ enum Subject {
 }
 
 // What was learned, and what the lines speak of at present.
-// Both tables are here all the time, and a heading opens its own in place: with an enum of the table in force each line was
-// measured to take up to half as long again, and a heading twice as long, since tables were made and moved.
+// Both tables are here all the time, and a heading opens its own in place: with an enum of the table in force a heading took about
+// twice the time, since a table was made and moved, and any line four times the instructions or more.
 #[derive(Drop)]
 struct Book {
     subject: Option<Subject>,
